@@ -1,0 +1,4 @@
+pub mod Choosing
+pub mod Multiples
+pub mod Weights
+pub mod Meant

@@ -1,0 +1,6 @@
+pub mod Roundings
+pub mod Bounds
+pub mod Sums
+pub mod Leasts
+pub mod Goods
+pub mod Points

@@ -1,0 +1,7 @@
+pub mod Rounding
+pub mod Units
+pub mod Limits
+pub mod Share
+pub mod Priority
+pub mod Demand
+pub mod Instants
