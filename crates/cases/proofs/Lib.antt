@@ -1,1 +1,3 @@
 pub mod Full
+pub mod Placed
+pub mod Sampled

@@ -8,10 +8,11 @@ use Rattle.std.specs.declared.option.Option.{Option}
 use Rattle.std.specs.declared.option.Option.the-variants.{Some, None}
 use Rattle.std.proofs.shelf.Lists.{at-drop-more, at-drop-all, drop-more, append-assoc, length-drop}
 use Rattle.tasks.specs.declared.task.Task.{Task}
+use Rattle.machine.specs.declared.state.Release.{Release}
 use Rattle.script.specs.declared.fields.Step.{Step}
 use Rattle.script.specs.declared.fields.Step.the-variants.{Digit, Gap, Bad}
 use Rattle.script.specs.Fields.{step-of, numbers-from, numbers-of}
-use Rattle.script.specs.Calls.{plain-task, tasks-of}
+use Rattle.script.specs.Calls.{plain-task, tasks-of, release-of, releases-of}
 
 module _ (done : List ℕ) (so-far : Option ℕ) (text : List ℕ) (i : ℕ) (lt : i < length text) where
   pub numbers-digit : (n : ℕ) → step-of so-far (getD text i 0) ≡ Digit n → numbers-from done so-far (drop i text) ≡ numbers-from done (Some n) (drop (i + 1) text)
@@ -45,3 +46,19 @@ few-none (n ∷ (m ∷ ns)) l = absurd (omega arith)
 
 pub tasks-end : (ns : List ℕ) (i : ℕ) → length ns ≤ i + 1 → tasks-of (drop i ns) ≡ []
 tasks-end ns i l = few-none (drop i ns) (omega (arith, length-drop i ns))
+
+-- and so for releases
+pub releases-more : (ns : List ℕ) (i : ℕ) → i + 1 < length ns → releases-of (drop i ns) ≡ release-of (getD ns i 0) (getD ns (i + 1) 0) ∷ releases-of (drop (i + 2) ns)
+releases-more ns i l =
+    let e : i + 1 + 1 ≡ i + 2 = omega arith in
+    at-drop-more releases-of ns i 0 (omega arith)
+    ∙ ap (λ rest. releases-of (getD ns i 0 ∷ rest)) (drop-more ns (i + 1) 0 l)
+    ∙ ap (λ k. release-of (getD ns i 0) (getD ns (i + 1) 0) ∷ releases-of (drop k ns)) e
+
+few-releases : (ns : List ℕ) → length ns ≤ 1 → releases-of ns ≡ []
+few-releases [] l = refl
+few-releases (n ∷ []) l = refl
+few-releases (n ∷ (m ∷ ns)) l = absurd (omega arith)
+
+pub releases-end : (ns : List ℕ) (i : ℕ) → length ns ≤ i + 1 → releases-of (drop i ns) ≡ []
+releases-end ns i l = few-releases (drop i ns) (omega (arith, length-drop i ns))

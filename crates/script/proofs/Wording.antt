@@ -13,13 +13,14 @@ use Rattle.std.specs.declared.option.Option.{Option}
 use Rattle.std.specs.declared.option.Option.the-variants.{Some, None}
 use Rattle.std.specs.shelf.Lists.{leading}
 use Rattle.std.proofs.shelf.Lists.{length-append, take-at, drop-at, append-assoc, take-rest}
-use Rattle.std.proofs.shelf.Tests.{cond-true, cond-false, and-parts, eqb-true, eq-eqb, ne-eqb, lt-ltb, le-ltb, le-leb, and-from, cases-bool}
+use Rattle.std.proofs.shelf.Tests.{cond-true, cond-false, and-parts, and-right, eqb-true, eq-eqb, ne-eqb, lt-ltb, le-ltb, le-leb, and-from, cases-bool}
 use Rattle.script.specs.declared.words.Word.{Word}
-use Rattle.script.specs.declared.words.Word.the-variants.{Judge, Demand, Share}
+use Rattle.script.specs.declared.words.Word.the-variants.{Judge, Demand, Share, Rehearse, Trace}
 use Rattle.script.specs.Fields.{Unspaced, numbers-of}
 use Rattle.script.specs.Names.{name-of, same}
 use Rattle.tasks.specs.declared.task.Task.{Task}
-use Rattle.script.specs.Calls.{Seen, judges, demands, plain-task, tasks-of, holds, call-of, word-length, word-of, with-numbers, with-word, called}
+use Rattle.machine.specs.declared.state.Release.{Release}
+use Rattle.script.specs.Calls.{SeenRun, Seen, judges, demands, plain-task, tasks-of, releases-of, holds, count-at, run-of, call-of, word-length, word-of, with-numbers, with-word, called}
 
 past-byte : (b : ℕ) (rest : List ℕ) → (b ≡ 32 → ⊥) → word-length (b ∷ rest) ≡ 1 + word-length rest
 past-byte b rest h = rw (ne-eqb b 32 h)
@@ -62,13 +63,15 @@ pub word-is : (text : List ℕ) (w : Word) → text ≡ name-of w → word-of te
 word-is text Judge e = ap word-of e
 word-is text Demand e = ap word-of e
 word-is text Share e = ap word-of e
+word-is text Rehearse e = ap word-of e
+word-is text Trace e = ap word-of e
 
 not-same : (text : List ℕ) (w : Word) → ((v : Word) → text ≡ name-of v → ⊥) → same text (name-of w) ≡ false
 not-same text w h = elim (cases-bool (same text (name-of w))) [ inl e ↦ absurd (h w (same-true text (name-of w) e)) | inr e ↦ e ]
 
 pub word-none : (text : List ℕ) → ((v : Word) → text ≡ name-of v → ⊥) → word-of text ≡ None
 word-none text h =
-    cond-false (same text (name-of Judge)) _ _ (not-same text Judge h) ∙ cond-false (same text (name-of Demand)) _ _ (not-same text Demand h) ∙ cond-false (same text (name-of Share)) _ _ (not-same text Share h)
+    cond-false (same text (name-of Judge)) _ _ (not-same text Judge h) ∙ cond-false (same text (name-of Demand)) _ _ (not-same text Demand h) ∙ cond-false (same text (name-of Share)) _ _ (not-same text Share h) ∙ cond-false (same text (name-of Rehearse)) _ _ (not-same text Rehearse h) ∙ cond-false (same text (name-of Trace)) _ _ (not-same text Trace h)
 
 -- what numbers after a word make the call no call
 pub with-none : (w : Word) (text : List ℕ) (ns : Option (List ℕ)) → ns ≡ numbers-of text → ns ≡ None → with-word (Some w) text ≡ None
@@ -91,3 +94,23 @@ module _ (ns : List ℕ) (t : Task) (ys : List Task) (is : t ≡ plain-task (get
       let r = take-rest ns 4 in
       let b = and-from (leb 4 (length ns)) (holds (getD ns 3 0) (drop 4 ns)) (le-leb 4 (length ns) l) (ap (holds (getD ns 3 0)) (sym r) ∙ sym h) in
       ap (λ x. Some (demands x (record { 0 = getD ns 2 0 }) ys)) is ∙ ap (λ l. Some (demands (plain-task (getD ns 0 0) (getD ns 1 0)) (record { 0 = getD ns 2 0 }) l)) (e ∙ ap tasks-of r) ∙ sym (cond-true _ _ None b)
+
+-- a horizon, tasks and releases, or none where the pairs behind the count are not as many as it says
+module _ (ns : List ℕ) (inside : count-at ns < length ns) where
+  rest : take (length ns - (count-at ns + 1)) (drop (count-at ns + 1) ns) ≡ drop (count-at ns + 1) ns
+  rest = take-rest ns (count-at ns + 1)
+
+  pub no-run : false ≡ holds (getD ns (count-at ns) 0) (take (length ns - (count-at ns + 1)) (drop (count-at ns + 1) ns)) → None ≡ run-of ns
+  no-run h = sym (cond-false _ _ None (and-right (ltb (count-at ns) (length ns)) (holds (getD ns (count-at ns) 0) (drop (count-at ns + 1) ns)) (ap (holds (getD ns (count-at ns) 0)) (sym rest) ∙ sym h)))
+
+  abbrev asked : List Task → List Release → Option SeenRun
+  asked ts rs = Some (record { horizon = record { 0 = getD ns 0 0 }; tasks = ts; releases = rs })
+
+  pub run-is
+      : true ≡ holds (getD ns (count-at ns) 0) (take (length ns - (count-at ns + 1)) (drop (count-at ns + 1) ns))
+      → (ts : List Task) (rs : List Release) → ts ≡ tasks-of (take (count-at ns - 2) (drop 2 ns)) → rs ≡ releases-of (take (length ns - (count-at ns + 1)) (drop (count-at ns + 1) ns))
+      → asked ts rs ≡ run-of ns
+  run-is h ts rs e f =
+      let b = and-from (ltb (count-at ns) (length ns)) (holds (getD ns (count-at ns) 0) (drop (count-at ns + 1) ns)) (lt-ltb (count-at ns) (length ns) inside) (ap (holds (getD ns (count-at ns) 0)) (sym rest) ∙ sym h) in
+      ap (λ (l : List Task). asked l rs) e ∙ ap (asked (tasks-of (take (count-at ns - 2) (drop 2 ns)))) (f ∙ ap releases-of rest)
+      ∙ sym (cond-true _ _ None b)

@@ -5,12 +5,14 @@ use mathlib.Core.List.{List, [], _∷_}
 use lib.Chars.{codes}
 use lib.Dec.{eqb}
 use Rattle.script.specs.declared.words.Word.{Word}
-use Rattle.script.specs.declared.words.Word.the-variants.{Judge, Demand, Share}
+use Rattle.script.specs.declared.words.Word.the-variants.{Judge, Demand, Share, Rehearse, Trace}
 
 abbrev pub name-of : Word → List ℕ
 name-of Judge = codes "judge"
 name-of Demand = codes "demand"
 name-of Share = codes "share"
+name-of Rehearse = codes "rehearse"
+name-of Trace = codes "trace"
 
 -- whether two texts are the same
 abbrev pub same : List ℕ → List ℕ → Bool

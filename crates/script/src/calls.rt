@@ -8,15 +8,24 @@ ghost use Prim.Native.Nat.{_+_};
 ghost use lib.Dec.{eqb};
 ghost use lib.ListN.{length};
 ghost use Rattle.script.specs.Fields.{Unspaced};
-ghost use Rattle.script.specs.Calls.{plain-task, tasks-of, seen-as, call-of, called};
+ghost use Rattle.script.specs.Calls.{plain-task, tasks-of, release-of, releases-of, seen-run, seen-as, run-of, call-of, called};
 use crate::fields::numbers;
 use crate::words::Word;
 use crate::words::word_named;
+use machine::Release;
 use std::alloc::AllocError;
 use std::alloc::Global;
 use tasks::Task;
 use tasks::Ticks;
 use tasks::Units;
+
+/// What a rehearsal is asked about: tasks in the order of priority, and releases below a horizon.
+#[derive(Drop)]
+pub struct Rehearsal {
+    pub horizon: Ticks,
+    pub tasks: Vec<Task>,
+    pub releases: Vec<Release>,
+}
 
 /// A call that a script line stands for.
 #[derive(Drop)]
@@ -36,6 +45,10 @@ pub enum Call {
     Share {
         task: Task,
     },
+    /// How does a run of the machine end?
+    Rehearse(Rehearsal),
+    /// How does it end, and what happens at each instant up to there?
+    Trace(Rehearsal),
 }
 
 // A task of the given work and period; scripts give it no number.
@@ -62,8 +75,31 @@ fn tasks_from(heap: Global, numbers: &[u32]) -> Result<Vec<Task>, AllocError>
     Ok(all)
 }
 
-// Whether a list holds the works and periods of `count` tasks.
-fn holds_tasks(count: u32, numbers: &[u32]) -> bool
+// A release of the task at a place.
+fn release_at(place: u32, instant: u32) -> Release
+    ensures { λ r. ⌜ r ≡ release-of place instant ⌝ }
+{
+    Release {
+        place: place as usize,
+        instant: Ticks(instant),
+    }
+}
+
+// The releases that a list of places and instants stands for.
+fn releases_from(heap: Global, numbers: &[u32]) -> Result<Vec<Release>, AllocError>
+    ensures { λ r. ⌜ made r (λ v. vec-items v ≡ releases-of (now (numbers .entry))) ⌝ }
+{
+    let mut all = Vec::new(heap);
+    let mut i = 0;
+    while i + 1 < numbers.len() {
+        all.push(release_at(numbers[i], numbers[i + 1]))?;
+        i += 2;
+    }
+    Ok(all)
+}
+
+// Whether a list holds `count` pairs.
+fn holds_pairs(count: u32, numbers: &[u32]) -> bool
     ensures { λ r. ⌜ r ≡ eqb (length (now (numbers .entry))) (count + count) ⌝ }
 {
     numbers.len() == count as usize + count as usize
@@ -76,7 +112,7 @@ fn judge_from(heap: Global, numbers: &[u32]) -> Result<Option<Call>, AllocError>
     if numbers.len() < 3 {
         return Ok(None);
     }
-    if !holds_tasks(numbers[2], &numbers[3..]) {
+    if !holds_pairs(numbers[2], &numbers[3..]) {
         return Ok(None);
     }
     let above = tasks_from(heap, &numbers[3..])?;
@@ -93,7 +129,7 @@ fn demand_from(heap: Global, numbers: &[u32]) -> Result<Option<Call>, AllocError
     if numbers.len() < 4 {
         return Ok(None);
     }
-    if !holds_tasks(numbers[3], &numbers[4..]) {
+    if !holds_pairs(numbers[3], &numbers[4..]) {
         return Ok(None);
     }
     let above = tasks_from(heap, &numbers[4..])?;
@@ -117,6 +153,49 @@ fn share_from(numbers: &[u32]) -> Option<Call>
     })
 }
 
+// `H N C1 T1 .. CN TN K P1 I1 .. PK IK`
+fn rehearsal_from(heap: Global, numbers: &[u32]) -> Result<Option<Rehearsal>, AllocError>
+    ensures { λ r. ⌜ made r (λ o. mapped seen-run o ≡ run-of (now (numbers .entry))) ⌝ }
+{
+    if numbers.len() < 2 {
+        return Ok(None);
+    }
+    let at = 2 + (numbers[1] as usize + numbers[1] as usize);
+    if numbers.len() <= at {
+        return Ok(None);
+    }
+    if !holds_pairs(numbers[at], &numbers[at + 1..]) {
+        return Ok(None);
+    }
+    let tasks = tasks_from(heap, &numbers[2..at])?;
+    let releases = releases_from(heap, &numbers[at + 1..])?;
+    Ok(Some(Rehearsal {
+        horizon: Ticks(numbers[0]),
+        tasks,
+        releases,
+    }))
+}
+
+// `rehearse H N C1 T1 .. CN TN K P1 I1 .. PK IK`
+fn rehearse_from(heap: Global, numbers: &[u32]) -> Result<Option<Call>, AllocError>
+    ensures { λ r. ⌜ made r (λ o. mapped seen-as o ≡ call-of Word.Rehearse (now (numbers .entry))) ⌝ }
+{
+    match rehearsal_from(heap, numbers)? {
+        Some(run) => Ok(Some(Call::Rehearse(run))),
+        None => Ok(None),
+    }
+}
+
+// `trace H N C1 T1 .. CN TN K P1 I1 .. PK IK`
+fn trace_from(heap: Global, numbers: &[u32]) -> Result<Option<Call>, AllocError>
+    ensures { λ r. ⌜ made r (λ o. mapped seen-as o ≡ call-of Word.Trace (now (numbers .entry))) ⌝ }
+{
+    match rehearsal_from(heap, numbers)? {
+        Some(run) => Ok(Some(Call::Trace(run))),
+        None => Ok(None),
+    }
+}
+
 // The call of a word and its numbers.
 fn call_from(heap: Global, word: Word, numbers: &[u32]) -> Result<Option<Call>, AllocError>
     ensures { λ r. ⌜ made r (λ o. mapped seen-as o ≡ call-of word (now (numbers .entry))) ⌝ }
@@ -125,6 +204,8 @@ fn call_from(heap: Global, word: Word, numbers: &[u32]) -> Result<Option<Call>, 
         Word::Judge => judge_from(heap, numbers),
         Word::Demand => demand_from(heap, numbers),
         Word::Share => Ok(share_from(numbers)),
+        Word::Rehearse => rehearse_from(heap, numbers),
+        Word::Trace => trace_from(heap, numbers),
     }
 }
 

@@ -8,6 +8,7 @@ mod words;
 pub use answers::Answer;
 pub use answers::answer_for;
 pub use calls::Call;
+pub use calls::Rehearsal;
 pub use calls::read;
 pub use fields::numbers;
 pub use lines::reply;

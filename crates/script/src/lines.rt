@@ -4,27 +4,23 @@ ghost use lib.Chars.{codes};
 ghost use mathlib.Core.List.{_++_};
 ghost use Rattle.std.specs.Of.String.{string-bytes};
 ghost use Rattle.std.specs.Options.{mapped};
+ghost use Rattle.std.specs.declared.option.Option.the-variants.{Some, None};
 ghost use Rattle.std.specs.Vec.{made};
 ghost use Rattle.script.specs.Calls.{seen-as};
-ghost use Rattle.script.specs.Lines.{number-text, answer-text, call-text, passed-over, reply-text};
+ghost use Rattle.traces.specs.Texts.{number-text};
+ghost use Rattle.script.specs.Lines.{lines-before, end-text, answer-text, call-text, passed-over, reply-text};
 use crate::answers::Answer;
 use crate::answers::answer_for;
 use crate::calls::Call;
 use crate::calls::read;
+use machine::Miss;
+use machine::Outcome;
 use std::alloc::AllocError;
 use std::alloc::Global;
 use tasks::Ticks;
 use tasks::Units;
-
-// A number, or a dash for none.
-fn number_text(heap: Global, number: Option<u64>) -> Result<String, AllocError>
-    ensures { λ r. ⌜ made r (λ s. string-bytes s ≡ number-text number) ⌝ }
-{
-    match number {
-        Some(n) => format!(heap, "{n}"),
-        None => String::from_str(heap, "-"),
-    }
-}
+use traces::number_text;
+use traces::trace_text;
 
 // An instant as a number.
 fn ticks_number(t: Option<Ticks>) -> Option<u64>
@@ -65,6 +61,34 @@ fn pair_text(heap: Global, first: Option<u64>, second: Option<u64>) -> Result<St
     format!(heap, "{a} {b}")
 }
 
+// A miss, with the busy ticks up to it.
+fn miss_text(heap: Global, miss: Miss, busy: Ticks) -> Result<String, AllocError>
+    ensures { λ r. ⌜ made r (λ s. string-bytes s ≡ end-text (Some miss) (busy .0)) ⌝ }
+{
+    let place = miss.place;
+    let instant = miss.instant.0;
+    let ticks = busy.0;
+    format!(heap, "miss {place} {instant} {ticks}")
+}
+
+// No miss, with the busy ticks up to the horizon.
+fn none_text(heap: Global, busy: Ticks) -> Result<String, AllocError>
+    ensures { λ r. ⌜ made r (λ s. string-bytes s ≡ end-text None (busy .0)) ⌝ }
+{
+    let ticks = busy.0;
+    format!(heap, "none {ticks}")
+}
+
+// How a run ended.
+fn end_text(heap: Global, outcome: Outcome) -> Result<String, AllocError>
+    ensures { λ r. ⌜ made r (λ s. string-bytes s ≡ end-text (outcome .miss) (outcome .busy .0)) ⌝ }
+{
+    match outcome.miss {
+        Some(miss) => miss_text(heap, miss, outcome.busy),
+        None => none_text(heap, outcome.busy),
+    }
+}
+
 // What an answer is written as.
 fn answer_text(heap: Global, answer: Answer) -> Result<String, AllocError>
     ensures { λ r. ⌜ made r (λ s. string-bytes s ≡ answer-text answer) ⌝ }
@@ -77,7 +101,33 @@ fn answer_text(heap: Global, answer: Answer) -> Result<String, AllocError>
         ),
         Answer::Demand(demand) => number_text(heap, units_number(demand)),
         Answer::Share(share) => number_text(heap, share_number(share)),
+        Answer::Ended(outcome) => end_text(heap, outcome),
+        Answer::Refused(number) => format!(heap, "R{number}"),
     }
+}
+
+// What stands before the answer: of a trace its lines, else nothing.
+fn lines_before(heap: Global, call: &Call) -> Result<String, AllocError>
+    ensures { λ r. ⌜ made r (λ s. string-bytes s ≡ lines-before (seen-as (now (call .entry)))) ⌝ }
+{
+    match call {
+        Call::Trace(run) => trace_text(
+            heap,
+            run.tasks.as_slice(),
+            run.horizon,
+            run.releases.as_slice(),
+        ),
+        _ => Ok(String::new(heap)),
+    }
+}
+
+// The answer to a call, with the lines before it.
+fn known_text(heap: Global, call: &Call) -> Result<String, AllocError>
+    ensures { λ r. ⌜ made r (λ s. string-bytes s ≡ call-text (Some (seen-as (now (call .entry))))) ⌝ }
+{
+    let lines = lines_before(heap, call)?;
+    let answer = answer_text(heap, answer_for(call))?;
+    format!(heap, "{lines}{answer}")
 }
 
 // What a call is answered, as text: `?` where there is none.
@@ -85,7 +135,7 @@ fn call_text(heap: Global, call: &Option<Call>) -> Result<String, AllocError>
     ensures { λ r. ⌜ made r (λ s. string-bytes s ≡ call-text (mapped seen-as (now (call .entry)))) ⌝ }
 {
     match call {
-        Some(c) => answer_text(heap, answer_for(c)),
+        Some(c) => known_text(heap, c),
         None => String::from_str(heap, "?"),
     }
 }

@@ -9,6 +9,8 @@ pub enum Word {
     Judge,
     Demand,
     Share,
+    Rehearse,
+    Trace,
 }
 
 /// The word that stands in `text`, or none.
@@ -19,6 +21,8 @@ pub fn word_named(text: &str) -> Option<Word>
         "judge" => Some(Word::Judge),
         "demand" => Some(Word::Demand),
         "share" => Some(Word::Share),
+        "rehearse" => Some(Word::Rehearse),
+        "trace" => Some(Word::Trace),
         _ => None,
     }
 }

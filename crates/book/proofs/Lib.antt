@@ -1,0 +1,5 @@
+pub mod Entering
+pub mod Leaving
+pub mod Moments
+pub mod Following
+pub mod Single

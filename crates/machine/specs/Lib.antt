@@ -1,0 +1,10 @@
+pub mod Machine
+pub mod Lawful
+pub mod Promises
+pub mod Traces
+pub mod Events
+pub mod Refusals
+pub mod Cursor
+pub mod Moments
+pub mod Separation
+pub mod Laws

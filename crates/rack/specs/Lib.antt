@@ -1,0 +1,5 @@
+pub mod Taken
+pub mod Spots
+pub mod Trials
+pub mod Steps
+pub mod Always

@@ -1,0 +1,16 @@
+pub mod Parts
+pub mod Windows
+pub mod Critical
+pub mod Steps
+pub mod Counting
+pub mod Runs
+pub mod Enough
+pub mod Sync
+pub mod Needed
+pub mod Order
+pub mod Exactly
+pub mod Published
+pub mod Passing
+pub mod Removing
+pub mod Permuting
+pub mod Cases
