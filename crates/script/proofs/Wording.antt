@@ -25,11 +25,11 @@ use Rattle.script.specs.Calls.{SeenRun, Seen, judges, demands, plain-task, tas
 past-byte : (b : ℕ) (rest : List ℕ) → (b ≡ 32 → ⊥) → word-length (b ∷ rest) ≡ 1 + word-length rest
 past-byte b rest h = rw (ne-eqb b 32 h)
 
-length-unspaced : (text : List ℕ) → Unspaced text → word-length text ≡ length text
+pub length-unspaced : (text : List ℕ) → Unspaced text → word-length text ≡ length text
 length-unspaced [] h = refl
 length-unspaced (b ∷ bs) h = past-byte b bs (h 0 (omega arith)) ∙ ap (λ n. 1 + n) (length-unspaced bs (λ i l e. h (suc i) (omega arith) e)) ∙ one-add (length bs)
 
-length-spaced : (w r : List ℕ) → Unspaced w → word-length (w ++ 32 ∷ r) ≡ length w
+pub length-spaced : (w r : List ℕ) → Unspaced w → word-length (w ++ 32 ∷ r) ≡ length w
 length-spaced [] r h = refl
 length-spaced (b ∷ bs) r h = past-byte b (bs ++ 32 ∷ r) (h 0 (omega arith)) ∙ ap (λ n. 1 + n) (length-spaced bs r (λ i l e. h (suc i) (omega arith) e)) ∙ one-add (length bs)
 

@@ -209,8 +209,8 @@ fn call_from(heap: Global, word: Word, numbers: &[u32]) -> Result<Option<Call>, 
     }
 }
 
-// The word of a line and what stands behind the space after it; none where there is no space.
-fn split_word(line: &str) -> Option<(&str, &str)>
+/// The word of a line and what stands behind the space after it; none where there is no space.
+pub fn split_word(line: &str) -> Option<(&str, &str)>
     ensures { λ r. ⌜ BySome r (Unspaced (now (line .entry))) (λ x. (now (line .entry) ≡ now (x .0) ++ (32 ∷ now (x .1))) × Unspaced (now (x .0))) ⌝ }
 {
     line.split_once(' ')

@@ -10,6 +10,7 @@ pub use answers::answer_for;
 pub use calls::Call;
 pub use calls::Rehearsal;
 pub use calls::read;
+pub use calls::split_word;
 pub use fields::numbers;
 pub use lines::reply;
 pub use words::Word;
