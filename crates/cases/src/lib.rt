@@ -1,4 +1,6 @@
 // Worked cases, settled against the definitions that the contracts cite.
+#![tactic(auto)]
+
 ghost use Rattle.std.specs.List.{AllByRecursion as All};
 ghost use Rattle.cases.specs.Cases.{Settled, cases};
 

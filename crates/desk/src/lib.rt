@@ -1,4 +1,6 @@
 // The desk: the test program's calls on a rack and on files.
+#![tactic(auto)]
+
 mod asking;
 mod desk;
 mod files;

@@ -1,4 +1,6 @@
 // Judges: who says at which instant a task below others is sure to be done.
+#![tactic(auto)]
+
 mod judge;
 mod points;
 mod step_up;

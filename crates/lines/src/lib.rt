@@ -1,4 +1,6 @@
 // The lines that the player writes, and the fault that ends or marks one.
+#![tactic(auto)]
+
 mod fault;
 mod line;
 mod writing;

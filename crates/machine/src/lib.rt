@@ -1,4 +1,6 @@
 // The step machine: tasks in a fixed priority order on one processor, instant by instant.
+#![tactic(auto)]
+
 mod checks;
 mod event;
 mod instant;

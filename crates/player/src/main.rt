@@ -1,4 +1,6 @@
 // The player: a rack file on standard input, a line a record on standard output.
+#![tactic(auto)]
+
 use anyhow::anyhow;
 use playing::{Play, Stop, begin, play_record, write_fault};
 use std::io::{Read, Write};

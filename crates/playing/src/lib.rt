@@ -1,4 +1,6 @@
 // Playing a rack file: a rack for the file, and one line a record.
+#![tactic(auto)]
+
 mod opening;
 mod outcome;
 mod play;

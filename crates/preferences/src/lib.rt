@@ -1,4 +1,6 @@
 // Preferences: which of two processors that would take a newcomer is to have it.
+#![tactic(auto)]
+
 mod contender;
 mod fits;
 mod policy;

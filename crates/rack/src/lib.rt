@@ -1,4 +1,6 @@
 // A rack of processors on which tasks are admitted and from which they are withdrawn.
+#![tactic(auto)]
+
 mod calls;
 mod choosing;
 mod processor;

@@ -1,4 +1,6 @@
 // The rack file: bytes, records and the file, three reading layers.
+#![tactic(auto)]
+
 ghost use Rattle.rackfile.specs.Faults.{FaultsDiffer};
 ghost use Rattle.rackfile.specs.Exact.{ReadsWhatStands, OneFile, NotBoth, EveryFileHasBytes, LabelsAreThere};
 

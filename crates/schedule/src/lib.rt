@@ -1,4 +1,6 @@
 // The theory of fixed-priority scheduling on one processor. Each function names a theorem of specs/ in its contract, so that a check asks for its proof; it does nothing else.
+#![tactic(auto)]
+
 ghost use Rattle.schedule.specs.Sufficient.{RunsFollowTraces, RunsMeetTraces, WaitsLess, DoneBy, IdleFrom, FittingPlaceIsSafe, FittingListIsSafe};
 ghost use Rattle.schedule.specs.Necessary.{SynchronousIsAllMultiples, SynchronousIsLawful, SynchronousMisses, UnfitCanMiss, UnfitFrontCanMiss};
 ghost use Rattle.schedule.specs.Orders.{PermutationsCountTheSame, FitsOrNot, PriorityOrderIsBest, PriorityOrderIsOptimal, FitsExactlyWhenSafe, UnfitExactlyWhenCanMiss, UnfitExactlyWhenNoOrder, JoinedKeepsOrder};

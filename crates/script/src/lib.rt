@@ -1,4 +1,6 @@
 // Scripts: a call a line, and what is written back for each.
+#![tactic(auto)]
+
 mod answers;
 mod calls;
 mod fields;

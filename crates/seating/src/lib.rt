@@ -1,4 +1,6 @@
 // Seats by lists: what an admission and a withdrawal do to the lists of seats of a rack, and that each does one thing only.
+#![tactic(auto)]
+
 ghost use Rattle.seating.specs.Seats.{JoinedAtPlace};
 ghost use Rattle.seating.specs.Refusals.{NumbersDiffer};
 ghost use Rattle.seating.specs.Admission.{AdmitsOnce, AdmitsSome};

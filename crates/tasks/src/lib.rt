@@ -1,4 +1,6 @@
 // Tasks of a framing line: work counted in units, time in ticks, and the demand of a task below others.
+#![tactic(auto)]
+
 mod demand;
 mod task;
 mod units;

@@ -1,4 +1,6 @@
 // Traces: a run of the machine, a line for each instant.
+#![tactic(auto)]
+
 mod texts;
 mod tracing;
 mod views;

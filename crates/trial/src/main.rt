@@ -1,4 +1,6 @@
 // The test program: a script on standard input, a call a line, and each line written back with its answer.
+#![tactic(auto)]
+
 use desk::{Desk, reply};
 use std::io::{BufRead, BufReader, Write};
 
