@@ -30,14 +30,14 @@ none_before : (x : Task) (above : List Task) (from next : ℕ) → NextPoint x a
 none_before x above from next n h = none_further (good_point x above) from next h (λ u lo hi. and_left (point x above u) (good x above u) (n.none u lo hi))
 
 pub loop-other-init : goal.loop-other-init
-loop-other-init c = next_own c.args.task c.points.from.0 c.points.invariant.0 (ltb-false c.args.task.period.0 c.points.from.0 (sym c.if-is-past.ensures))
+loop-other-init c = next_own c.args.task c.points.from.0 c.points.invariant.0 (ltb-false c.args.task.period.0 c.points.from.0 (sym c.if-is_past.ensures))
 
-pub multiple-from-requires : goal.multiple-from-requires
-multiple-from-requires c =
+pub multiple_from-requires : goal.multiple_from-requires
+multiple_from-requires c =
     let x = c.args.task in
     let ys = c.args.above.now in
     let o = other x ys c.loop-other.other-index c.requires c.loop-other-test.true in
-    let l = ltb-false x.period.0 c.points.from.0 (sym c.if-is-past.ensures) in
+    let l = ltb-false x.period.0 c.points.from.0 (sym c.if-is_past.ensures) in
     record { some = o.period_from; short = o.period_to; near = omega (arith, l, (limits x (asked_parts x ys c.requires).own).period_to) }
 
 pub loop-other-preserved : goal.loop-other-preserved
@@ -61,14 +61,14 @@ points-preserved c =
 
 pub points-smaller : goal.points-smaller
 points-smaller c =
-    let l = ltb-false c.args.task.period.0 c.points.from.0 (sym c.if-is-past.ensures) in
+    let l = ltb-false c.args.task.period.0 c.points.from.0 (sym c.if-is_past.ensures) in
     omega (arith, l, c.in-NotBefore.ensures.0, c.loop-other.invariant.not_before)
 
-pub returns-then-is-past : goal.returns-then-is-past
-returns-then-is-past c =
+pub returns-then-is_past : goal.returns-then-is_past
+returns-then-is_past c =
     let x = c.args.task in
     let ys = c.args.above.now in
-    let l = ltb-true x.period.0 c.points.from.0 (sym c.if-is-past.ensures) in
+    let l = ltb-true x.period.0 c.points.from.0 (sym c.if-is_past.ensures) in
     choice_none good_point x ys c.requires (λ u a b. c.points.invariant.1 u a (omega arith))
 
 pub returns-in-Done : goal.returns-in-Done

@@ -8,13 +8,13 @@ pub loop-task-preserved : goal.loop-task-preserved
 loop-task-preserved c =
     let xs = c.args.tasks.now in
     let rest = all_within (drop (c.loop-task.task-index + 1) xs) in
-    sym (at_drop_more all_within xs c.loop-task.task-index no_task c.loop-task-test.true ∙ ap (λ (b : Bool). b && rest) (sym c.if-not-keeps-limits.ensures)) ∙ c.loop-task.invariant
+    sym (at_drop_more all_within xs c.loop-task.task-index no_task c.loop-task-test.true ∙ ap (λ (b : Bool). b && rest) (sym c.if-not-keeps_limits.ensures)) ∙ c.loop-task.invariant
 
-pub returns-then-not-keeps-limits : goal.returns-then-not-keeps-limits
-returns-then-not-keeps-limits c =
+pub returns-then-not-keeps_limits : goal.returns-then-not-keeps_limits
+returns-then-not-keeps_limits c =
     let xs = c.args.tasks.now in
     let rest = all_within (drop (c.loop-task.task-index + 1) xs) in
-    sym (at_drop_more all_within xs c.loop-task.task-index no_task c.loop-task-test.true ∙ ap (λ (b : Bool). b && rest) (sym c.if-not-keeps-limits.ensures)) ∙ c.loop-task.invariant
+    sym (at_drop_more all_within xs c.loop-task.task-index no_task c.loop-task-test.true ∙ ap (λ (b : Bool). b && rest) (sym c.if-not-keeps_limits.ensures)) ∙ c.loop-task.invariant
 
 pub returns : goal.returns
 returns c = sym (at_drop_all all_within c.args.tasks.now c.loop-task.task-index c.loop-task-test.false) ∙ c.loop-task.invariant

@@ -3,5 +3,5 @@ use Rattle.lines.proofs.Chained.{wrote_append, filled}
 use Rattle.lines.proofs.line.withdrawn.Goals as goal
 
 pub returns : goal.returns
-returns c = filled (wrote_append c.put-index-at.ensures.wrote (wrote_append c.put-number-at.ensures.wrote (wrote_append c.put-field-at.ensures.wrote c.put.ensures)))
-    (omega (arith, c.put-index-at.ensures.bound, c.put-number-at.ensures.bound, c.put-field-at.ensures.bound, c.put.ensures.ends))
+returns c = filled (wrote_append c.put_index-at.ensures.wrote (wrote_append c.put_number-at.ensures.wrote (wrote_append c.put_field-at.ensures.wrote c.put.ensures)))
+    (omega (arith, c.put_index-at.ensures.bound, c.put_number-at.ensures.bound, c.put_field-at.ensures.bound, c.put.ensures.ends))

@@ -10,8 +10,8 @@ put-requires t c = omega (arith, ap length (decimal_digit c.args.n c.if-n-lt10.t
 pub returns-then-n-lt10 : goal.returns-then-n-lt10
 returns-then-n-lt10 t c = wrote_as (sym (decimal_digit c.args.n c.if-n-lt10.true)) c.put.ensures
 
-pub put-digits-next-requires : goal.put-digits-next-requires
-put-digits-next-requires t c =
+pub put_digits-next-requires : goal.put_digits-next-requires
+put_digits-next-requires t c =
     let n = c.args.n in
     let long = ap length (decimal_step n c.if-n-lt10.false (omega arith)) ∙ length_push (decimal (n / 10)) (48 + n % 10) in
     (omega arith, omega (arith, long))
@@ -23,4 +23,4 @@ put-requires-2 t c =
     omega (arith, long)
 
 pub returns : goal.returns
-returns t c = wrote_as (sym (decimal_step c.args.n c.if-n-lt10.false (omega arith))) (wrote_append c.put-digits-next.ensures c.put-2.ensures)
+returns t c = wrote_as (sym (decimal_step c.args.n c.if-n-lt10.false (omega arith))) (wrote_append c.put_digits-next.ensures c.put-2.ensures)

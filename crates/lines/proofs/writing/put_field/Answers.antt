@@ -3,4 +3,4 @@ use Rattle.lines.proofs.Chained.{wrote_append}
 use Rattle.lines.proofs.writing.put_field.Goals as goal
 
 pub returns : goal.returns
-returns c = record { wrote = wrote_append c.put-at.ensures c.put-number.ensures.wrote; bound = omega (arith, c.put-at.ensures.ends, c.put-number.ensures.bound) }
+returns c = record { wrote = wrote_append c.put-at.ensures c.put_number.ensures.wrote; bound = omega (arith, c.put-at.ensures.ends, c.put_number.ensures.bound) }

@@ -5,6 +5,6 @@ use Rattle.lines.proofs.writing.put_index.Goals as goal
 pub returns : goal.returns
 returns c =
     record {
-      wrote = wrote_append c.put-number-at.ensures.wrote (wrote_append c.put-at.ensures (wrote_append c.put-at-2.ensures c.put.ensures));
-      bound = omega (arith, c.put-number-at.ensures.bound, c.put-at.ensures.ends, c.put-at-2.ensures.ends, c.put.ensures.ends);
+      wrote = wrote_append c.put_number-at.ensures.wrote (wrote_append c.put-at.ensures (wrote_append c.put-at-2.ensures c.put.ensures));
+      bound = omega (arith, c.put_number-at.ensures.bound, c.put-at.ensures.ends, c.put-at-2.ensures.ends, c.put.ensures.ends);
     }

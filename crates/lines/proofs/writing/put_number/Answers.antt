@@ -6,8 +6,8 @@ use Rattle.lines.proofs.writing.put_number.Goals as goal
 ten : (n : ℕ) → n < 2 ^ 32 → length (decimal n) ≤ 10
 ten n h = length-decimal-le 10 n (omega arith) (omega arith) (omega arith)
 
-pub put-digits-requires : goal.put-digits-requires
-put-digits-requires c = omega (arith, ten c.args.n (omega arith))
+pub put_digits-requires : goal.put_digits-requires
+put_digits-requires c = omega (arith, ten c.args.n (omega arith))
 
 pub returns : goal.returns
-returns c = record { wrote = c.put-digits.ensures; bound = omega (arith, ten c.args.n (omega arith), c.put-digits.ensures.ends) }
+returns c = record { wrote = c.put_digits.ensures; bound = omega (arith, ten c.args.n (omega arith), c.put_digits.ensures.ends) }

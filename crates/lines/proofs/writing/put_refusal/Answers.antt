@@ -5,6 +5,6 @@ use Rattle.lines.proofs.writing.put_refusal.Goals as goal
 pub returns : goal.returns
 returns c =
     record {
-      wrote = wrote_append c.put-at.ensures (wrote_append c.put-at-2.ensures c.put-number.ensures.wrote);
-      bound = omega (arith, c.put-at.ensures.ends, c.put-at-2.ensures.ends, c.put-number.ensures.bound);
+      wrote = wrote_append c.put-at.ensures (wrote_append c.put-at-2.ensures c.put_number.ensures.wrote);
+      bound = omega (arith, c.put-at.ensures.ends, c.put-at-2.ensures.ends, c.put_number.ensures.bound);
     }

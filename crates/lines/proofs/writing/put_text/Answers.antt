@@ -3,4 +3,4 @@ use Rattle.lines.proofs.Chained.{wrote_part}
 use Rattle.lines.proofs.writing.put_text.Goals as goal
 
 pub returns : goal.returns
-returns c = wrote_part c.args.out.now c.args.text.now _ c.args.at _ c.copy-from-slice.ensures.after refl c.requires
+returns c = wrote_part c.args.out.now c.args.text.now _ c.args.at _ c.copy_from_slice.ensures.after refl c.requires

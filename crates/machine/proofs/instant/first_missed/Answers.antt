@@ -9,7 +9,7 @@ loop-i-init c = refl
 pub loop-i-preserved : goal.loop-i-preserved
 loop-i-preserved c =
     first_more c.args.instant.0 c.args.states.now c.loop-i.i c.loop-i.found _ c.loop-i-test.true
-    (c.first-of-found.ensures ∙ ap (λ b. or_else c.loop-i.found (cond b (Some c.loop-i.i) None)) c.misses.ensures) ∙ c.loop-i.invariant
+    (c.first_of-found.ensures ∙ ap (λ b. or_else c.loop-i.found (cond b (Some c.loop-i.i) None)) c.misses.ensures) ∙ c.loop-i.invariant
 
 pub returns : goal.returns
 returns c = sym (first_all c.args.instant.0 c.args.states.now c.loop-i.i c.loop-i.found (omega arith)) ∙ c.loop-i.invariant

@@ -6,7 +6,7 @@ pub loop-i-init : goal.loop-i-init
 loop-i-init c = record { same = refl; rest = refl; busy = refl }
 
 pub loop-i-preserved : goal.loop-i-preserved
-loop-i-preserved c = seek_more c.loop-i.states c.loop-i.i (omega arith) c.args.states.now c.loop-i.invariant c.in-default.ensures
+loop-i-preserved c = seek_more c.loop-i.states c.loop-i.i (omega arith) c.args.states.now c.loop-i.invariant c.in_default.ensures
 
 pub returns-in-Some : goal.returns-in-Some
 returns-in-Some c =

@@ -11,8 +11,8 @@ loop-horizon-init c =
     let few = (allowed_tasks c.args.tasks.now c.requires.tasks).0 in
     running_none c.args.tasks.now c.args.releases.now c.args.horizon.0 c.begin-at.result.instant.0 c.begin-at.result.busy.0 (n - 0) (sub-zero n) few c.begin-at.ensures.instant c.begin-at.ensures.busy
 
-pub one-instant-requires : goal.one-instant-requires
-one-instant-requires c =
+pub one_instant-requires : goal.one_instant-requires
+one_instant-requires c =
     let ts = c.args.tasks.now in
     let law = allowed_lawful ts c.args.horizon.0 c.args.releases.now c.requires.releases in
     let near = leb-true c.args.horizon.0 2000000 c.requires.near in
@@ -31,7 +31,7 @@ returns-in-Missed c =
 pub risen-at-requires : goal.risen-at-requires
 risen-at-requires c =
     let near = leb-true c.args.horizon.0 2000000 c.requires.near in
-    let b = went_few c.args.tasks.now c.args.releases.now c.loop-horizon.at.instant.0 c.loop-horizon.states c.in-Went.busy.0 c.one-instant.new.states c.in-Went.ensures.step in
+    let b = went_few c.args.tasks.now c.args.releases.now c.loop-horizon.at.instant.0 c.loop-horizon.states c.in-Went.busy.0 c.one_instant.new.states c.in-Went.ensures.step in
     record { instant = omega (arith, near, c.loop-horizon.invariant.below); busy = omega (arith, near, b, c.loop-horizon.invariant.below, c.loop-horizon.invariant.few) }
 
 pub loop-horizon-preserved : goal.loop-horizon-preserved
@@ -41,6 +41,6 @@ loop-horizon-preserved c =
     let h = c.args.horizon.0 in
     let t = c.loop-horizon.at.instant.0 in
     let w = running_more ts rs h t c.loop-horizon.at.busy.0 c.loop-horizon.cursor c.loop-horizon.states c.loop-horizon.invariant
-    c.in-Went.busy.0 c.one-instant.new.states c.one-instant.new.cursor (ltb-true t h (sym c.loop-horizon-test.ensures)) c.in-Went.ensures.step c.in-Went.ensures.cursor in
-    let a = subst (λ i. Running ts rs h i (c.loop-horizon.at.busy.0 + c.in-Went.busy.0) c.one-instant.new.cursor c.one-instant.new.states) (sym c.risen-at.ensures.instant) w in
-    subst (λ b. Running ts rs h c.risen-at.result.instant.0 b c.one-instant.new.cursor c.one-instant.new.states) (sym c.risen-at.ensures.busy) a
+    c.in-Went.busy.0 c.one_instant.new.states c.one_instant.new.cursor (ltb-true t h (sym c.loop-horizon-test.ensures)) c.in-Went.ensures.step c.in-Went.ensures.cursor in
+    let a = subst (λ i. Running ts rs h i (c.loop-horizon.at.busy.0 + c.in-Went.busy.0) c.one_instant.new.cursor c.one_instant.new.states) (sym c.risen-at.ensures.instant) w in
+    subst (λ b. Running ts rs h c.risen-at.result.instant.0 b c.one_instant.new.cursor c.one_instant.new.states) (sym c.risen-at.ensures.busy) a

@@ -8,7 +8,7 @@ loop-i-preserved c =
     let xs = c.args.seats.now in
     let i = c.loop-i.i in
     let n = c.args.number in
-    sym (ap (λ (b : Bool). b || holds n (drop (i + 1) xs)) (sym c.if-is-of.ensures))
+    sym (ap (λ (b : Bool). b || holds n (drop (i + 1) xs)) (sym c.if-is_of.ensures))
     ∙ sym (at_drop_more (holds n) xs i no_seat c.loop-i-test.true) ∙ c.loop-i.invariant
 
 pub returns : goal.returns
