@@ -22,7 +22,7 @@ fn may_have(m: usize) -> bool
 impl<J: Judge, P: Preference> Rack<J, P> {
     /// A rack of m processors with all seats free. It is refused if m is 0 or above 16.
     pub fn make(m: usize, judge: J, preference: P) -> Result<Self, Blank<J, P>>
-        ensures { MakeStep meaning before m judge preference result }
+        ensures { MakeStep J.meaning P.before m judge preference result }
     {
         if !may_have(m) {
             return Err(Blank {
@@ -41,7 +41,7 @@ impl<J: Judge, P: Preference> Rack<J, P> {
 
     /// Admits a task: of the processors that would take it the preferred one does, and its number and the task's instant are the answer.
     pub fn admit(&mut self, task: Task, sheet: &mut [u32]) -> Result<(usize, Ticks), AdmitRefusal>
-        ensures { Step meaning before self.old (admits task sheet.old result sheet.new) self.new }
+        ensures { Step J.meaning P.before self.old (admits task sheet.old result sheet.new) self.new }
     {
         if let Some(cause) = earlier_cause(&self.table, self.m, task, sheet.len()) {
             return Err(cause);
@@ -58,7 +58,7 @@ impl<J: Judge, P: Preference> Rack<J, P> {
 
     /// The task of this number leaves; its processor, its work and its period are the answer.
     pub fn withdraw(&mut self, number: u32) -> Result<(usize, Units, Ticks), WithdrawRefusal>
-        ensures { Step meaning before self.old (withdraws number result) self.new }
+        ensures { Step J.meaning P.before self.old (withdraws number result) self.new }
     {
         let Some((p, at)) = spot(&self.table, self.m, number) else {
             return Err(WithdrawRefusal::NotSeated);
@@ -70,7 +70,7 @@ impl<J: Judge, P: Preference> Rack<J, P> {
 
 /// What holds of every rack at every moment, and that each call has exactly one answer.
 pub fn every_rack<J: Judge, P: Preference>(rack: &Rack<J, P>) -> u8
-    ensures { Always meaning before rack.now }
+    ensures { Always J.meaning P.before rack.now }
 {
     0
 }

@@ -82,8 +82,8 @@ fn goes_before<P: Preference>(preference: &mut P, table: &Table, p: usize, q: us
     requires wide { length table.now.processors ≡ 16 }
     requires first { p < 16 }
     requires second { q < 16 }
-    ensures answer { result ≡ before preference.old (seen_with (slice_index_or (all_lists table.now) p []) p) (seen_with (slice_index_or (all_lists table.now) q []) q) }
-    ensures same { before preference.new ≡ before preference.old }
+    ensures answer { result ≡ P.before preference.old (seen_with (slice_index_or (all_lists table.now) p []) p) (seen_with (slice_index_or (all_lists table.now) q []) q) }
+    ensures same { P.before preference.new ≡ P.before preference.old }
 {
     preference.prefers(seen(table, p), seen(table, q))
 }
@@ -111,10 +111,10 @@ fn consider<J: Judge, P: Preference>(
     requires wide { length table.now.processors ≡ 16 }
     requires few { m ≤ 16 }
     requires there { p < m }
-    requires chosen { Chosen (meaning judge.old) (before preference.old) (first_lists m table.now) x p choice }
-    ensures chosen { Chosen (meaning judge.old) (before preference.old) (first_lists m table.now) x (p + 1) result }
-    ensures judge { meaning judge.new ≡ meaning judge.old }
-    ensures preference { before preference.new ≡ before preference.old }
+    requires chosen { Chosen (J.meaning judge.old) (P.before preference.old) (first_lists m table.now) x p choice }
+    ensures chosen { Chosen (J.meaning judge.old) (P.before preference.old) (first_lists m table.now) x (p + 1) result }
+    ensures judge { J.meaning judge.new ≡ J.meaning judge.old }
+    ensures preference { P.before preference.new ≡ P.before preference.old }
 {
     let mut entries = choice.entries;
     let trial = match try_on(judge, table.seats(p), x) {
@@ -146,9 +146,9 @@ pub(crate) fn choose<J: Judge, P: Preference>(
 ) -> Choice
     requires wide { length table.now.processors ≡ 16 }
     requires few { m ≤ 16 }
-    ensures chosen { Chosen (meaning judge.old) (before preference.old) (first_lists m table.now) x m result }
-    ensures judge { meaning judge.new ≡ meaning judge.old }
-    ensures preference { before preference.new ≡ before preference.old }
+    ensures chosen { Chosen (J.meaning judge.old) (P.before preference.old) (first_lists m table.now) x m result }
+    ensures judge { J.meaning judge.new ≡ J.meaning judge.old }
+    ensures preference { P.before preference.new ≡ P.before preference.old }
 {
     let mut choice = Choice {
         best: None,

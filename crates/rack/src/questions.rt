@@ -33,7 +33,7 @@ fn is_there(p: usize, m: usize) -> bool
 impl<J: Judge, P: Preference> Rack<J, P> {
     /// The seat of the task of this number, and its processor.
     pub fn find(&self, number: u32) -> Option<(Seat, usize)>
-        ensures { Step meaning before self.now (finds number result) self.now }
+        ensures { Step J.meaning P.before self.now (finds number result) self.now }
     {
         let Some((p, at)) = spot(&self.table, self.m, number) else {
             return None;
@@ -43,7 +43,7 @@ impl<J: Judge, P: Preference> Rack<J, P> {
 
     /// The load of processor p: the sum of its tasks' shares, in millionths.
     pub fn load(&self, p: usize) -> Result<u64, QuestionRefusal>
-        ensures { Step meaning before self.now (loads p result) self.now }
+        ensures { Step J.meaning P.before self.now (loads p result) self.now }
     {
         if !is_there(p, self.m) {
             return Err(QuestionRefusal::NoProcessor);
@@ -53,7 +53,7 @@ impl<J: Judge, P: Preference> Rack<J, P> {
 
     /// The taken seats of processor p, as a part of the table.
     pub fn seats(&self, p: usize) -> Result<&[Seat], QuestionRefusal>
-        ensures { Step meaning before self.now (lists p (shown result)) self.now }
+        ensures { Step J.meaning P.before self.now (lists p (shown result)) self.now }
     {
         if !is_there(p, self.m) {
             return Err(QuestionRefusal::NoProcessor);

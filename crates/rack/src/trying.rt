@@ -44,8 +44,8 @@ impl Candidate {
 // What the judge says of the task at place i below those above it.
 fn ask_at<J: Judge>(judge: &mut J, tasks: &[Task], i: usize) -> Option<Ticks>
     requires { i < length tasks.now }
-    ensures answer { result ≡ said (meaning judge.old) tasks.now i }
-    ensures same { meaning judge.new ≡ meaning judge.old }
+    ensures answer { result ≡ said (J.meaning judge.old) tasks.now i }
+    ensures same { J.meaning judge.new ≡ J.meaning judge.old }
 {
     judge.ask(tasks[i], &tasks[0..i])
 }
@@ -53,8 +53,8 @@ fn ask_at<J: Judge>(judge: &mut J, tasks: &[Task], i: usize) -> Option<Ticks>
 // The instants of the tasks from `from` on, each judged below those above it, or the number of the first that has none.
 fn judge_from<J: Judge>(judge: &mut J, tasks: &[Task], from: usize) -> Result<[Ticks; 32], u32>
     requires few { length tasks.now ≤ 32 }
-    ensures judged { Judged (meaning judge.old) tasks.now from result }
-    ensures same { meaning judge.new ≡ meaning judge.old }
+    ensures judged { Judged (J.meaning judge.old) tasks.now from result }
+    ensures same { J.meaning judge.new ≡ J.meaning judge.old }
 {
     let mut instants = [Ticks(0); 32];
     for i in from..tasks.len() {
@@ -69,8 +69,8 @@ fn judge_from<J: Judge>(judge: &mut J, tasks: &[Task], from: usize) -> Result<[T
 // The trial of a newcomer, or what the sheet is to say.
 pub(crate) fn try_on<J: Judge>(judge: &mut J, seats: &[Seat], x: Task) -> Result<Trial, u32>
     requires { length seats.now ≤ 32 }
-    ensures tried { Tried (meaning judge.old) x seats.now result }
-    ensures same { meaning judge.new ≡ meaning judge.old }
+    ensures tried { Tried (J.meaning judge.old) x seats.now result }
+    ensures same { J.meaning judge.new ≡ J.meaning judge.old }
 {
     if !has_room(seats) {
         return Err(0);

@@ -34,8 +34,8 @@ returns-in-Err g c =
       preference = refl;
     }
 
-pub returns-in-default : goal.returns-in-default
-returns-in-default g c =
+pub returns-in_default : goal.returns-in_default
+returns-in_default g c =
     let mean = g.J.Judge.meaning c.args.judge.now in
     let bef = g.P.Preference.before c.args.preference.now in
     let laws = g.met.P.Preference.lawful c.args.preference.now in
@@ -49,17 +49,17 @@ returns-in-default g c =
     let here = c.seats.ensures.list ∙ sym (at p c.requires.there) in
     let e = c.in-Ok.ensures in
     record {
-      chosen = subst (λ (r : Choice). Chosen mean bef b x (p + 1) r) (sym c.choice-of.ensures) (record {
+      chosen = subst (λ (r : Choice). Chosen mean bef b x (p + 1) r) (sym c.choice_of.ensures) (record {
         wide = h.wide;
         best = first_taker mean bef laws b x p es c.in-Ok.trial (subst (λ (l : List Seat). Took mean x l c.in-Ok.trial) here e.tried)
-            (subst (λ (o : Option (ℕ × Trial)). Best mean bef b x p es o) c.in-default.is h.best);
+            (subst (λ (o : Option (ℕ × Trial)). Best mean bef b x p es o) c.in_default.is h.best);
       });
       judge = e.same;
       preference = refl;
     }
 
-pub returns-then-goes-before : goal.returns-then-goes-before
-returns-then-goes-before g c =
+pub returns-then-goes_before : goal.returns-then-goes_before
+returns-then-goes_before g c =
     let mean = g.J.Judge.meaning c.args.judge.now in
     let bef = g.P.Preference.before c.args.preference.now in
     let laws = g.met.P.Preference.lawful c.args.preference.now in
@@ -75,15 +75,15 @@ returns-then-goes-before g c =
     let was : Best mean bef b x p es (Some (q, c.in-Some.other)) = subst (λ (o : Option (ℕ × Trial)). Best mean bef b x p es o) c.in-Some.is h.best in
     let said = ap (λ (l : List Seat). bef (seen_with l p) (as_seen b q)) (at p c.requires.there)
     ∙ ap (λ (l : List Seat). bef (seen_with (get_or (all_lists t) p []) p) (seen_with l q)) (at q (omega (arith, was.0, c.requires.there)))
-    ∙ sym c.if-goes-before.ensures.answer in
+    ∙ sym c.if-goes_before.ensures.answer in
     let e = c.in-Ok.ensures in
     record {
-      chosen = subst (λ (r : Choice). Chosen mean bef b x (p + 1) r) (sym c.choice-of-then-goes-before.ensures) (record {
+      chosen = subst (λ (r : Choice). Chosen mean bef b x (p + 1) r) (sym c.choice_of-then-goes_before.ensures) (record {
         wide = h.wide;
         best = better_taker mean bef laws b x p es c.in-Ok.trial (q, c.in-Some.other) (subst (λ (l : List Seat). Took mean x l c.in-Ok.trial) here e.tried) said was;
       });
       judge = e.same;
-      preference = c.goes-before.ensures.same;
+      preference = c.goes_before.ensures.same;
     }
 
 pub returns : goal.returns
@@ -103,10 +103,10 @@ returns g c =
     let was : Best mean bef b x p es (Some (q, c.in-Some.other)) = subst (λ (o : Option (ℕ × Trial)). Best mean bef b x p es o) c.in-Some.is h.best in
     let said = ap (λ (l : List Seat). bef (seen_with l p) (as_seen b q)) (at p c.requires.there)
     ∙ ap (λ (l : List Seat). bef (seen_with (get_or (all_lists t) p []) p) (seen_with l q)) (at q (omega (arith, was.0, c.requires.there)))
-    ∙ sym c.if-goes-before.ensures.answer in
+    ∙ sym c.if-goes_before.ensures.answer in
     let e = c.in-Ok.ensures in
     record {
-      chosen = subst (λ (r : Choice). Chosen mean bef b x (p + 1) r) (sym c.choice-of-2.ensures) (record { wide = h.wide; best = best_stays mean bef laws b x p es (q, c.in-Some.other) said was });
+      chosen = subst (λ (r : Choice). Chosen mean bef b x (p + 1) r) (sym c.choice_of-2.ensures) (record { wide = h.wide; best = best_stays mean bef laws b x p es (q, c.in-Some.other) said was });
       judge = e.same;
-      preference = c.goes-before.ensures.same;
+      preference = c.goes_before.ensures.same;
     }

@@ -26,17 +26,17 @@ returns-in-Some-spot c =
     let rest : Bool → Option ℕ = λ h. cond h (Some 6) (cond (all_full b) (Some 7) None) in
     let is : seated x.number b ≡ true = elim (cases_Bool (seated x.number b)) [ inl e ↦ e | inr e ↦ absurd (is_seated_there x.number b _ _ s.there s.within s.number e) ] in
     ap rest (sym is)
-    ∙ checked_none (ltb c.args.entries c.args.m) (eqb x.number 0) (period_allowed x) (work_allowed x) (rest (seated x.number b)) c.in-default.ensures
+    ∙ checked_none (ltb c.args.entries c.args.m) (eqb x.number 0) (period_allowed x) (work_allowed x) (rest (seated x.number b)) c.in_default.ensures
     ∙ ap (λ (k : ℕ). checked (ltb c.args.entries k) (eqb x.number 0) (period_allowed x) (work_allowed x) (rest (seated x.number b))) (sym n)
 
-pub returns-then-is-full : goal.returns-then-is-full
-returns-then-is-full c =
+pub returns-then-is_full : goal.returns-then-is_full
+returns-then-is_full c =
     let x = c.args.x in
     let b = first_lists c.args.m c.args.table.now in
     let n = length-first c.args.table.now c.args.m c.requires.wide c.requires.few in
     let rest : Bool → Bool → Option ℕ = λ h f. cond h (Some 6) (cond f (Some 7) None) in
-    ap (rest false) c.if-is-full.ensures ∙ ap (λ (h : Bool). rest h (all_full b)) (sym c.in-default-spot.ensures)
-    ∙ checked_none (ltb c.args.entries c.args.m) (eqb x.number 0) (period_allowed x) (work_allowed x) (rest (seated x.number b) (all_full b)) c.in-default.ensures
+    ap (rest false) c.if-is_full.ensures ∙ ap (λ (h : Bool). rest h (all_full b)) (sym c.in_default-spot.ensures)
+    ∙ checked_none (ltb c.args.entries c.args.m) (eqb x.number 0) (period_allowed x) (work_allowed x) (rest (seated x.number b) (all_full b)) c.in_default.ensures
     ∙ ap (λ (k : ℕ). checked (ltb c.args.entries k) (eqb x.number 0) (period_allowed x) (work_allowed x) (rest (seated x.number b) (all_full b))) (sym n)
 
 pub returns : goal.returns
@@ -45,6 +45,6 @@ returns c =
     let b = first_lists c.args.m c.args.table.now in
     let n = length-first c.args.table.now c.args.m c.requires.wide c.requires.few in
     let rest : Bool → Bool → Option ℕ = λ h f. cond h (Some 6) (cond f (Some 7) None) in
-    ap (rest false) c.if-is-full.ensures ∙ ap (λ (h : Bool). rest h (all_full b)) (sym c.in-default-spot.ensures)
-    ∙ checked_none (ltb c.args.entries c.args.m) (eqb x.number 0) (period_allowed x) (work_allowed x) (rest (seated x.number b) (all_full b)) c.in-default.ensures
+    ap (rest false) c.if-is_full.ensures ∙ ap (λ (h : Bool). rest h (all_full b)) (sym c.in_default-spot.ensures)
+    ∙ checked_none (ltb c.args.entries c.args.m) (eqb x.number 0) (period_allowed x) (work_allowed x) (rest (seated x.number b) (all_full b)) c.in_default.ensures
     ∙ ap (λ (k : ℕ). checked (ltb c.args.entries k) (eqb x.number 0) (period_allowed x) (work_allowed x) (rest (seated x.number b) (all_full b))) (sym n)

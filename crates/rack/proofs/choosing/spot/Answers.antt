@@ -25,7 +25,7 @@ loop-p-preserved c =
     let n = c.args.number in
     let here = ap (holds n) (first_at t m c.requires.wide c.requires.few p c.loop-p-test.true ∙ sym c.seats.ensures.list) in
     let more = at_drop_more (seated n) b p [] (omega (arith, length-first t m c.requires.wide c.requires.few)) in
-    ap (λ (y : Bool). y || seated n (drop (p + 1) b)) (sym c.in-default.ensures ∙ sym here) ∙ sym more ∙ c.loop-p.invariant
+    ap (λ (y : Bool). y || seated n (drop (p + 1) b)) (sym c.in_default.ensures ∙ sym here) ∙ sym more ∙ c.loop-p.invariant
 
 pub returns : goal.returns
 returns c =

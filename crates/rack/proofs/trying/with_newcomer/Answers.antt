@@ -32,17 +32,17 @@ returns c =
     let within : at ≤ n = c.place-at.ensures.within in
     let room : n < length ts = omega (arith, wide, c.requires) in
     let part = length-between ts at (n + 1) (omega arith) in
-    let long = c.rotate-right.ensures.len ∙ part in
+    let long = c.rotate_right.ensures.len ∙ part in
     let whole : c.loop-i.i ≡ n = omega arith in
     let all : take n ts ≡ tasks_of ss = ap (λ (k : ℕ). take k ts) (sym whole) ∙ c.loop-i.invariant.1 ∙ ap tasks_of (take_all c.loop-i.i ss (omega arith)) in
     let m = length-map ss (λ (s : Seat). s.task) in
     record {
-      wide = length-set _ at x ∙ length_part ts c.rotate-right.new.self at n within room long ∙ wide;
+      wide = length-set _ at x ∙ length_part ts c.rotate_right.new.self at n within room long ∙ wide;
       count = omega arith;
       place = c.place-at.ensures.place;
       within = omega (arith, c.place-at.ensures.place);
-      list = joined_front ts c.rotate-right.new.self at n within room long x
-          (λ i d lo hi. c.rotate-right.ensures.by_index.1 i d lo (omega (arith, part)) ∙ in_part ts at (n + 1) (i - 1) d (omega arith))
+      list = joined_front ts c.rotate_right.new.self at n within room long x
+          (λ i d lo hi. c.rotate_right.ensures.by_index.1 i d lo (omega (arith, part)) ∙ in_part ts at (n + 1) (i - 1) d (omega arith))
           ∙ ap (λ (l : List Task). insert l at x) all
           ∙ ap (λ (k : ℕ). insert (tasks_of ss) k x) c.place-at.ensures.place
           ∙ sym (joined_at_place x (tasks_of ss));

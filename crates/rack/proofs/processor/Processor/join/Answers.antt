@@ -35,8 +35,8 @@ loop-i-preserved c =
       subst (λ (l : List Seat). Renewing (taken_of c.insert.new.self) l (c.args.trial.now.candidate.place + 1) (c.loop-i.i + 1) c.args.trial.now.instants) (sym c.renew.ensures.list) next,
     )
 
-pub overflow-add-below : goal.overflow-add-below
-overflow-add-below c =
+pub overflow_add-below : goal.overflow_add-below
+overflow_add-below c =
     let of = c.requires.candidate in
     let at : c.args.trial.now.candidate.place < 32 = omega (arith, of.place, of.within, length-tasks (taken_of c.args.self.now.table), long c.args.self.now.table, c.requires.room) in
     search rules
@@ -48,8 +48,8 @@ more-self-requires c =
     let sum = p.sum in
     record { limits = c.requires.limits; small = omega (arith, load_bound (tasks_of (taken_of p.table)) p.limits, length-tasks (taken_of p.table), long p.table) }
 
-pub invariant-of-self : goal.invariant-of-self
-invariant-of-self c =
+pub invariant_of-self : goal.invariant_of-self
+invariant_of-self c =
     let p = c.args.self.now in
     let x = c.args.x in
     let of = c.requires.candidate in
@@ -63,16 +63,7 @@ invariant-of-self c =
     joined_table p.table c.insert.new.self c.loop-i.table x at c.loop-i.i c.args.trial.now.instants le of.place ins i c.loop-i.invariant.2 in
     let ts = tasks_of (taken_of p.table) in
     let l = ap load_of w.tasks ∙ load_joined x ts in
-    let sum = p.sum in (
-      omega (arith, l, sum, c.more-self.ensures),
-      (
-        ap all_within w.tasks ∙ within_joined x ts c.requires.limits p.limits,
-        (
-          ap by_priority w.tasks ∙ priority_joined x ts p.order,
-          (good_joined x (taken_of p.table) (taken_of c.loop-i.table) c.args.trial.now.instants w.tasks w.above w.instants p.instants (λ k lo hi. c.requires.judged k lo (omega arith)), tt),
-        ),
-      ),
-    )
+    let sum = p.sum in record { sum = omega (arith, l, sum, c.more-self.ensures); limits = ap all_within w.tasks ∙ within_joined x ts c.requires.limits p.limits; order = ap by_priority w.tasks ∙ priority_joined x ts p.order; instants = good_joined x (taken_of p.table) (taken_of c.loop-i.table) c.args.trial.now.instants w.tasks w.above w.instants p.instants (λ k lo hi. c.requires.judged k lo (omega arith)) }
 
 pub returns : goal.returns
 returns c =

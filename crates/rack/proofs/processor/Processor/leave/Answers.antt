@@ -31,8 +31,8 @@ less-self-requires c =
       part = omega (arith, l, sum, ap share_of t);
     }
 
-pub invariant-of-self : goal.invariant-of-self
-invariant-of-self c =
+pub invariant_of-self : goal.invariant_of-self
+invariant_of-self c =
     let p = c.args.self.now in
     let ss = taken_of p.table in
     let at = c.args.at in
@@ -43,13 +43,4 @@ invariant-of-self c =
     let l = load_removed (tasks_of ss) at (omega (arith, length-tasks ss)) in
     let ts = ap tasks_of c.remove-seat.ensures.list ∙ tasks_removed ss at in
     let after = ap load_of ts in
-    let sum = p.sum in (
-      omega (arith, c.less-self.ensures, ap share_of t),
-      (
-        ap all_within ts ∙ within_removed (tasks_of ss) at p.limits,
-        (
-          ap by_priority ts ∙ priority_removed (tasks_of ss) at p.order,
-          (ap all_keep_good c.remove-seat.ensures.list ∙ good_removed ss at lt p.instants, tt),
-        ),
-      ),
-    )
+    let sum = p.sum in record { sum = omega (arith, c.less-self.ensures, ap share_of t); limits = ap all_within ts ∙ within_removed (tasks_of ss) at p.limits; order = ap by_priority ts ∙ priority_removed (tasks_of ss) at p.order; instants = ap all_keep_good c.remove-seat.ensures.list ∙ good_removed ss at lt p.instants }

@@ -18,7 +18,7 @@ pub settle-requires : goal.settle-requires
 settle-requires g c =
     let r = c.args.self.now in
     let few = r.few in
-    let passes = sym c.in-default.ensures in
+    let passes = sym c.in_default.ensures in
     let chosen = c.choose-choice.ensures.chosen in
     record {
       wide = r.wide;
@@ -28,27 +28,18 @@ settle-requires g c =
           c.choose-choice.result.best c.choose-choice.result.entries chosen.best;
     }
 
-pub invariant-of-self-2 : goal.invariant-of-self-2
-invariant-of-self-2 g c =
+pub invariant_of-self-2 : goal.invariant_of-self-2
+invariant_of-self-2 g c =
     let r = c.args.self.now in
     let few = r.few in
     let mean = g.J.Judge.meaning r.judge in
     let laws = g.met.J.Judge.lawful r.judge in
     let bef = g.P.Preference.before r.preference in
-    let passes = sym c.in-default.ensures in
+    let passes = sym c.in_default.ensures in
     let choice = c.choose-choice.result in
     let best = c.choose-choice.ensures.chosen.best in
     let t' = c.settle.new.table in
-    let sheet' = c.settle.new.sheet in (
-      r.some,
-      (
-        few,
-        (
-          settled_wide mean laws bef r.table r.m r.wide few c.args.task c.args.sheet.now passes choice.entries sheet' t' c.settle.result choice.best c.settle.ensures,
-          (settled_differ mean laws bef r.table r.m r.wide few c.args.task c.args.sheet.now passes choice.entries sheet' t' c.settle.result choice.best best c.settle.ensures r.differ, tt),
-        ),
-      ),
-    )
+    let sheet' = c.settle.new.sheet in record { some = r.some; few = few; wide = settled_wide mean laws bef r.table r.m r.wide few c.args.task c.args.sheet.now passes choice.entries sheet' t' c.settle.result choice.best c.settle.ensures; differ = settled_differ mean laws bef r.table r.m r.wide few c.args.task c.args.sheet.now passes choice.entries sheet' t' c.settle.result choice.best best c.settle.ensures r.differ }
 
 pub returns : goal.returns
 returns g c =
@@ -57,7 +48,7 @@ returns g c =
     let mean = g.J.Judge.meaning r.judge in
     let laws = g.met.J.Judge.lawful r.judge in
     let bef = g.P.Preference.before r.preference in
-    let passes = sym c.in-default.ensures in
+    let passes = sym c.in_default.ensures in
     let choice = c.choose-choice.result in
     let chosen = c.choose-choice.ensures.chosen in
     let t' = c.settle.new.table in

@@ -5,8 +5,8 @@ use Rattle.rack.proofs.Living.{unchanged}
 use Rattle.rack.proofs.Shown.{length-first, first_at}
 use Rattle.rack.proofs.rack.Rack.find.Goals as goal
 
-pub seat-at-requires : goal.seat-at-requires
-seat-at-requires g c =
+pub seat_at-requires : goal.seat_at-requires
+seat_at-requires g c =
     let r = c.args.self.now in
     let few = r.few in
     let s = c.in-Some.ensures in
@@ -21,4 +21,4 @@ returns g c =
     let s = c.in-Some.ensures in
     let n = length-first r.table r.m r.wide few in
     let e = first_at r.table r.m r.wide few c.in-Some.p (omega (arith, s.there)) in
-    (record { at = c.in-Some.at; sits = s; its_seat = c.seat-at.ensures ∙ ap (λ (l : List Seat). get_or l c.in-Some.at no_seat) (sym e) }, unchanged r)
+    (record { at = c.in-Some.at; sits = s; its_seat = c.seat_at.ensures ∙ ap (λ (l : List Seat). get_or l c.in-Some.at no_seat) (sym e) }, unchanged r)

@@ -6,22 +6,22 @@ use Rattle.rack.proofs.Living.{unchanged}
 use Rattle.rack.proofs.Shown.{length-first, first_at}
 use Rattle.rack.proofs.rack.Rack.load.Goals as goal
 
-pub returns-then-not-is-there : goal.returns-then-not-is-there
-returns-then-not-is-there g c =
+pub returns-then-not-is_there : goal.returns-then-not-is_there
+returns-then-not-is_there g c =
     let r = c.args.self.now in
     let few = r.few in
-    (record { cause = omega (arith, length-first r.table r.m r.wide few, ltb-false c.args.p r.m (sym c.if-not-is-there.ensures)); refused = refl }, unchanged r)
+    (record { cause = omega (arith, length-first r.table r.m r.wide few, ltb-false c.args.p r.m (sym c.if-not-is_there.ensures)); refused = refl }, unchanged r)
 
 pub load-requires : goal.load-requires
 load-requires g c =
     let r = c.args.self.now in
     let few = r.few in
-    record { wide = r.wide; there = omega (arith, ltb-true c.args.p r.m (sym c.if-not-is-there.ensures)) }
+    record { wide = r.wide; there = omega (arith, ltb-true c.args.p r.m (sym c.if-not-is_there.ensures)) }
 
 pub returns : goal.returns
 returns g c =
     let r = c.args.self.now in
     let few = r.few in
     let n = length-first r.table r.m r.wide few in
-    let lt : c.args.p < r.m = ltb-true c.args.p r.m (sym c.if-not-is-there.ensures) in
+    let lt : c.args.p < r.m = ltb-true c.args.p r.m (sym c.if-not-is_there.ensures) in
     ((omega arith, c.load.ensures ∙ ap (λ (l : List Seat). load_of (tasks_of l)) (sym (first_at r.table r.m r.wide few c.args.p lt))), unchanged r)

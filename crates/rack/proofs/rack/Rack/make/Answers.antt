@@ -7,18 +7,18 @@ use Rattle.rack.proofs.Living.{whole_life}
 use Rattle.rack.proofs.Numbers.{allowed}
 use Rattle.rack.proofs.rack.Rack.make.Goals as goal
 
-pub invariant-of-result : goal.invariant-of-result
-invariant-of-result g c =
+pub invariant_of-result : goal.invariant_of-result
+invariant_of-result g c =
     let m = c.args.m in
-    let ok = allowed m (sym c.if-not-may-have.ensures) in
+    let ok = allowed m (sym c.if-not-may_have.ensures) in
     let few = ok.1 in
     let free : first_lists m c.empty.result ≡ replicate m [] = ap (λ (b : Lists). take m b) c.empty.ensures.lists ∙ take-replicate m 16 [] few in
-    (ok.0, (few, (c.empty.ensures.wide, (ap (λ (b : Lists). all_differ (numbers b)) free ∙ differ_none m, tt))))
+    record { some = ok.0; few = few; wide = c.empty.ensures.wide; differ = ap (λ (b : Lists). all_differ (numbers b)) free ∙ differ_none m }
 
 pub returns : goal.returns
 returns g c =
     let m = c.args.m in
-    let ok = allowed m (sym c.if-not-may-have.ensures) in
+    let ok = allowed m (sym c.if-not-may_have.ensures) in
     let few = ok.1 in
     let free : first_lists m c.empty.result ≡ replicate m [] = ap (λ (b : Lists). take m b) c.empty.ensures.lists ∙ take-replicate m 16 [] few in
     record {

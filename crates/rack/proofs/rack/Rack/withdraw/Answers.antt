@@ -8,9 +8,9 @@ use Rattle.seating.proofs.Keeping.{tasks_removed}
 use Rattle.rack.proofs.Shown.{length-first, first_at, first_set}
 use Rattle.rack.proofs.rack.Rack.withdraw.Goals as goal
 
-pub returns-in-default : goal.returns-in-default
-returns-in-default g c = record {
-  withdraws = record { cause = c.in-default.ensures; refused = refl; seats_stay = refl };
+pub returns-in_default : goal.returns-in_default
+returns-in_default g c = record {
+  withdraws = record { cause = c.in_default.ensures; refused = refl; seats_stay = refl };
   processors = refl;
   judge = refl;
   preference = refl;
@@ -26,8 +26,8 @@ leave-seat-requires g c =
     let e = first_at r.table r.m r.wide few c.in-Some.p (omega (arith, s.there)) in
     record { wide = r.wide; there = omega (arith, s.there); within = omega (arith, s.within, ap (length {A = Seat}) e) }
 
-pub invariant-of-self-2 : goal.invariant-of-self-2
-invariant-of-self-2 g c =
+pub invariant_of-self-2 : goal.invariant_of-self-2
+invariant_of-self-2 g c =
     let r = c.args.self.now in
     let few = r.few in
     let s = c.in-Some.ensures in
@@ -37,20 +37,13 @@ invariant-of-self-2 g c =
     let n = length-first r.table r.m r.wide few in
     let lt : p < r.m = omega (arith, s.there) in
     let e = first_at r.table r.m r.wide few p lt in
-    let l = remove (get_or (all_lists r.table) p []) at in (
-      r.some,
-      (
-        few,
-        (
-          c.leave-seat.ensures.wide,
-          (
-            ap (λ (b' : Lists). all_differ (numbers b')) (first_set r.table c.leave-seat.new.self r.m p l lt c.leave-seat.ensures.list)
-                ∙ differ_left b p at l s.there r.differ (tasks_removed (get_or (all_lists r.table) p []) at ∙ ap (λ (ss : List Seat). remove (tasks_of ss) at) (sym e)),
-            tt,
-          ),
-        ),
-      ),
-    )
+    let l = remove (get_or (all_lists r.table) p []) at in record {
+      some = r.some;
+      few = few;
+      wide = c.leave-seat.ensures.wide;
+      differ = ap (λ (b' : Lists). all_differ (numbers b')) (first_set r.table c.leave-seat.new.self r.m p l lt c.leave-seat.ensures.list)
+          ∙ differ_left b p at l s.there r.differ (tasks_removed (get_or (all_lists r.table) p []) at ∙ ap (λ (ss : List Seat). remove (tasks_of ss) at) (sym e));
+    }
 
 pub returns : goal.returns
 returns g c =

@@ -4,13 +4,13 @@ use Rattle.std.proofs.lemmas.List.{get_or-take, get_or_default}
 use Rattle.rack.proofs.Shifting.{left_front, length-left, in_part}
 use Rattle.rack.proofs.seat_table.SeatTable.remove.Goals as goal
 
-pub invariant-of-self : goal.invariant-of-self
-invariant-of-self c =
+pub invariant_of-self : goal.invariant_of-self
+invariant_of-self c =
     let p = c.args.self.now in
     let few = p.few in
     let whole = p.wide in
     let part = length-between p.seats c.args.at p.taken (omega arith) in
-    (omega arith, (length-left p.seats c.rotate-left.new.self c.args.at p.taken c.requires (omega arith) (c.rotate-left.ensures.len ∙ part) ∙ whole, tt))
+    record { few = omega arith; wide = length-left p.seats c.rotate_left.new.self c.args.at p.taken c.requires (omega arith) (c.rotate_left.ensures.len ∙ part) ∙ whole }
 
 pub returns : goal.returns
 returns c =
@@ -19,7 +19,7 @@ returns c =
     let whole = p.wide in
     let part = length-between p.seats c.args.at p.taken (omega arith) in
     record {
-      list = left_front p.seats c.rotate-left.new.self c.args.at p.taken c.requires (omega arith) (c.rotate-left.ensures.len ∙ part)
-          (λ i d lt. c.rotate-left.ensures.by_index.0 i d (omega (arith, part)) ∙ in_part p.seats c.args.at p.taken (i + 1) d (omega arith));
+      list = left_front p.seats c.rotate_left.new.self c.args.at p.taken c.requires (omega arith) (c.rotate_left.ensures.len ∙ part)
+          (λ i d lt. c.rotate_left.ensures.by_index.0 i d (omega (arith, part)) ∙ in_part p.seats c.args.at p.taken (i + 1) d (omega arith));
       value = search (rules, get_or-take, get_or_default);
     }

@@ -12,6 +12,6 @@ returns c =
     let at = c.args.at in
     record {
       list = take-set-lt p.taken p.seats at _ c.requires
-          ∙ ap (λ (s : Seat). set (take p.taken p.seats) at s) (c.renewed-seat.ensures ∙ ap (λ (s : Seat). with_instant s c.args.instant) (sym (get_or-take p.taken p.seats at no_seat c.requires)));
+          ∙ ap (λ (s : Seat). set (take p.taken p.seats) at s) (c.renewed_seat.ensures ∙ ap (λ (s : Seat). with_instant s c.args.instant) (sym (get_or-take p.taken p.seats at no_seat c.requires)));
       taken = refl;
     }
