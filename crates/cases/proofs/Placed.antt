@@ -1,6 +1,6 @@
 -- Where a newcomer goes.
 use Rattle.std.proofs.Common.{◌≡◌, ℕ, zero, suc, ◌<◌, true, List, [], length, get_or, refl, arith, lit≤}
-use Rattle.std.specs.List.{AllByRecursion as All}
+use Rattle.std.specs.List.{AllByRecursion}
 use Rattle.tasks.specs.Rounding.{up}
 use Rattle.tasks.specs.Priority.{joined}
 use Rattle.tasks.specs.Demand.{Fits}
@@ -39,6 +39,6 @@ module _ (bef : Relation) where
       others (suc zero) lt ne w = absurd (ne refl)
       others (suc (suc q)) lt ne w = absurd (omega (arith, lt))
 
-pub all_placed : All Settled places
+pub all_placed : AllByRecursion Settled places
 unfolding up
 all_placed = (taken_by_0 _ refl, (taken_by_0 _ refl, (taken_by_1 _ refl, tt)))

@@ -1,6 +1,6 @@
 -- A whole file: what its bytes stand for, the answers that are right, and the lines.
 use Rattle.std.proofs.Common.{◌≡◌, ℕ, zero, suc, ◌<◌, ◌≤◌, true, false, List, [], ◌∷◌, length, get_or, Some, None, Ok, Err, sym, refl, inr, arith, lit≤}
-use Rattle.std.specs.List.{AllByRecursion as All}
+use Rattle.std.specs.List.{AllByRecursion}
 use Rattle.std.specs.Fmt.{digits}
 use Rattle.std.proofs.lemmas.Bool.{both_ways, lt-ltb}
 use Rattle.tasks.specs.declared.task.Task.{Task}
@@ -160,6 +160,6 @@ right_3 = inr (refl, record { passes = refl; nobody = nobody; entries = entries;
 right_4 : Right least_good_point first_fit book_3 (withdraws 2 (Ok (0, record { 0 = 4 }, record { 0 = 10 })))
 right_4 = record { at = 1; sits = record { there = lit≤ tt; within = lit≤ tt; number = refl }; its_work = refl; its_period = refl; seats = refl }
 
-pub all_sampled : All Settled whole
+pub all_sampled : AllByRecursion Settled whole
 unfolding up least digits
 all_sampled = ((record { bytes = refl; short = lit≤ tt; processors = refl; few = lit≤ tt; allowed = refl; places = refl }, (right_0, refl, (right_1, refl, (right_2, refl, (right_3, refl, (right_4, refl, tt)))))), tt)

@@ -1,7 +1,7 @@
 // Worked cases, settled against the definitions that the contracts cite.
 #![tactic(auto)]
 
-ghost use Rattle.std.specs.List.{AllByRecursion as All};
+ghost use Rattle.std.specs.Prelude.{All};
 ghost use Rattle.cases.specs.Cases.{Settled, cases};
 
 /// Each worked case gives what it must.

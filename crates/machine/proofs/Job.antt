@@ -1,6 +1,6 @@
 -- Jobs of one task: from release to release, to their deadlines.
 use Rattle.std.proofs.Common.{◌≡◌, ℕ, zero, suc, ◌+◌, ◌-◌, ◌*◌, ◌<◌, ◌≤◌, Bool, true, false, cond, ◌&&◌, eqb, ltb, leb, ◌⊎◌, List, [], ◌∷◌, length, get_or, None, sym, refl, ap, ◌∙◌, subst, inl, inr, add-zero, add-suc, one-mul, arith}
-use Rattle.std.specs.List.{AllByRecursion as All}
+use Rattle.std.specs.List.{AllByRecursion}
 use Rattle.std.proofs.lemmas.Bool.{and_parts, or_cases, eqb-true, le-leb, lt-leb, ltb-true, cases_Bool, cases_lt, false≢true, cond-true, cond-false}
 use Rattle.tasks.specs.declared.task.Task.{Task}
 use Rattle.tasks.specs.declared.units.Ticks.{Ticks}
@@ -36,7 +36,7 @@ pub record Found (P : Release → Type 0) (p t : ℕ) : Type 0 where
 due_head : (r : Release) (p t : ℕ) → (eqb r.place p && eqb r.instant.0 t) ≡ true → (r.place ≡ p) × (r.instant.0 ≡ t)
 due_head r p t h = let w = and_parts (eqb r.place p) (eqb r.instant.0 t) h in (eqb-true r.place p w.0, eqb-true r.instant.0 t w.1)
 
-pub due_find : (P : Release → Type 0) (rs : List Release) (p t : ℕ) → All P rs → due rs p t ≡ true → Found P p t
+pub due_find : (P : Release → Type 0) (rs : List Release) (p t : ℕ) → AllByRecursion P rs → due rs p t ≡ true → Found P p t
 due_find P [] p t a h = absurd (false≢true h)
 due_find P (r ∷ rs) p t a h = elim (or_cases (eqb r.place p && eqb r.instant.0 t) (due rs p t) h) [
   | inl e ↦ let w = due_head r p t e in record { it = r; holds = a.0; place = w.0; instant = w.1 }
@@ -47,7 +47,7 @@ pub due_apart : (ts : List Task) (h : ℕ) (rs : List Release) (p s t : ℕ) →
 due_apart ts h [] p s t o a b l = absurd (false≢true a)
 due_apart ts h (r ∷ rs) p s t o a b l = go (or_cases (eqb r.place p && eqb r.instant.0 s) (due rs p s) a) (or_cases (eqb r.place p && eqb r.instant.0 t) (due rs p t) b) (lawful_parts ts h r rs o).1 (due_apart ts h rs p s t (lawful_parts ts h r rs o).2)
   where
-    go : ((eqb r.place p && eqb r.instant.0 s) ≡ true) ⊎ (due rs p s ≡ true) → ((eqb r.place p && eqb r.instant.0 t) ≡ true) ⊎ (due rs p t ≡ true) → All (Follows ts r) rs
+    go : ((eqb r.place p && eqb r.instant.0 s) ≡ true) ⊎ (due rs p s ≡ true) → ((eqb r.place p && eqb r.instant.0 t) ≡ true) ⊎ (due rs p t ≡ true) → AllByRecursion (Follows ts r) rs
         → (due rs p s ≡ true → due rs p t ≡ true → s < t → s + (get_or ts p no_task).period.0 ≤ t) → s + (get_or ts p no_task).period.0 ≤ t
     go (inl x) (inl y) f ih = let u = due_head r p s x in let v = due_head r p t y in absurd (omega arith)
     go (inl x) (inr y) f ih =

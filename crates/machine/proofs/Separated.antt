@@ -1,6 +1,6 @@
 -- Lawfulness in one pass is lawfulness by pairs.
 use Rattle.std.proofs.Common.{◌≡◌, ℕ, zero, suc, ◌+◌, ◌^◌, ◌<◌, ◌≤◌, Bool, true, false, not, ◌&&◌, ◌||◌, eqb, ltb, leb, List, [], ◌∷◌, length, get_or, drop, set, replicate, sym, refl, ap, ◌∙◌, inl, inr, arith}
-use Rattle.std.specs.List.{AllByRecursion as All}
+use Rattle.std.specs.List.{AllByRecursion}
 use Rattle.std.proofs.lemmas.List.{get_or-set_same, get_or-set_other, length-set, at_drop_more, at_drop_all}
 use Rattle.std.proofs.lemmas.Bool.{and_parts, and_from, or_cases, or_left, or_right, leb-true, le-leb, ltb-true, lt-ltb, eq-eqb, ne_eqb, cases_eq, not_from_false, not-true, both_ways}
 use Rattle.tasks.specs.declared.task.Task.{Task}
@@ -47,7 +47,7 @@ follows ts r q h =
       ];
     }
 
-pub all_follow : (ts : List Task) (r : Release) (rs : List Release) → all_may_follow ts r rs ≡ true → All (Follows ts r) rs
+pub all_follow : (ts : List Task) (r : Release) (rs : List Release) → all_may_follow ts r rs ≡ true → AllByRecursion (Follows ts r) rs
 all_follow ts r [] h = tt
 all_follow ts r (q ∷ rs) h = let w = and_parts (may_follow ts r q) (all_may_follow ts r rs) h in (follows ts r q w.0, all_follow ts r rs w.1)
 
@@ -91,21 +91,21 @@ module _ (ts : List Task) (last : ℕ) (free : List Ticks) (r : Release) (lt : r
             fine_from r.instant.0 (set free r.place (next_free ts r)) q u.later (omega (arith, g, w.1))
       ]
 
-  split : (rs : List Release) → All (Fine r.instant.0 (set free r.place (next_free ts r))) rs → (all_may_follow ts r rs ≡ true) × All (Fine last free) rs
+  split : (rs : List Release) → AllByRecursion (Fine r.instant.0 (set free r.place (next_free ts r))) rs → (all_may_follow ts r rs ≡ true) × AllByRecursion (Fine last free) rs
   split [] a = (refl, tt)
   split (q ∷ rs) a =
       let x = split_one q a.0 in
       let y = split rs a.1 in
       (and_from (may_follow ts r q) (all_may_follow ts r rs) x.0 y.0, (x.1, y.1))
 
-  join : (rs : List Release) → all_may_follow ts r rs ≡ true → All (Fine last free) rs → All (Fine r.instant.0 (set free r.place (next_free ts r))) rs
+  join : (rs : List Release) → all_may_follow ts r rs ≡ true → AllByRecursion (Fine last free) rs → AllByRecursion (Fine r.instant.0 (set free r.place (next_free ts r))) rs
   join [] m a = tt
   join (q ∷ rs) m a = let w = and_parts (may_follow ts r q) (all_may_follow ts r rs) m in (join_one q w.0 a.0, join rs w.1 a.1)
 
 place_of : (ts : List Task) (h : ℕ) (r : Release) → inside ts h r ≡ true → r.place < length ts
 place_of ts h r e = ltb-true r.place (length ts) (and_parts (ltb r.place (length ts)) (ltb r.instant.0 h) e).0
 
-to_pairs : (ts : List Task) (h last : ℕ) (free : List Ticks) (rs : List Release) → length ts ≤ length free → lawful_after ts h last free rs ≡ true → (lawful ts h rs ≡ true) × All (Fine last free) rs
+to_pairs : (ts : List Task) (h last : ℕ) (free : List Ticks) (rs : List Release) → length ts ≤ length free → lawful_after ts h last free rs ≡ true → (lawful ts h rs ≡ true) × AllByRecursion (Fine last free) rs
 to_pairs ts h last free [] n e = (refl, tt)
 to_pairs ts h last free (r ∷ rs) n e =
     let free' = set free r.place (next_free ts r) in
@@ -117,7 +117,7 @@ to_pairs ts h last free (r ∷ rs) n e =
     let s = split ts last free r (omega (arith, place_of ts h r w.0)) v.0 rs ih.1 in
     (and_from (inside ts h r) (all_may_follow ts r rs && lawful ts h rs) w.0 (and_from (all_may_follow ts r rs) (lawful ts h rs) s.0 ih.0), (v.0, s.1))
 
-from_pairs : (ts : List Task) (h last : ℕ) (free : List Ticks) (rs : List Release) → length ts ≤ length free → lawful ts h rs ≡ true → All (Fine last free) rs → lawful_after ts h last free rs ≡ true
+from_pairs : (ts : List Task) (h last : ℕ) (free : List Ticks) (rs : List Release) → length ts ≤ length free → lawful ts h rs ≡ true → AllByRecursion (Fine last free) rs → lawful_after ts h last free rs ≡ true
 from_pairs ts h last free [] n e a = refl
 from_pairs ts h last free (r ∷ rs) n e a =
     let free' = set free r.place (next_free ts r) in
@@ -134,7 +134,7 @@ zero_at zero k = refl
 zero_at (suc n) zero = refl
 zero_at (suc n) (suc k) = zero_at n k
 
-fine_all : (n : ℕ) (rs : List Release) → All (Fine 0 (replicate n no_ticks)) rs
+fine_all : (n : ℕ) (rs : List Release) → AllByRecursion (Fine 0 (replicate n no_ticks)) rs
 fine_all n [] = tt
 fine_all n (r ∷ rs) = (fine_from 0 (replicate n no_ticks) r (omega arith) (omega (arith, ap (λ t. t.0) (zero_at n r.place))), fine_all n rs)
 
@@ -144,12 +144,12 @@ one_pass ts h n rs l =
 
 -- a lawful list, release by release
 
-later_at : (ts : List Task) (r : Release) (rs : List Release) (k : ℕ) → All (Follows ts r) rs → k < length rs → r.instant.0 ≤ (get_or rs k no_release).instant.0
+later_at : (ts : List Task) (r : Release) (rs : List Release) (k : ℕ) → AllByRecursion (Follows ts r) rs → k < length rs → r.instant.0 ≤ (get_or rs k no_release).instant.0
 later_at ts r [] k a l = absurd (omega arith)
 later_at ts r (q ∷ rs) zero a l = a.0.later
 later_at ts r (q ∷ rs) (suc k) a l = later_at ts r rs k a.1 (omega arith)
 
-pub lawful_parts : (ts : List Task) (h : ℕ) (r : Release) (rs : List Release) → lawful ts h (r ∷ rs) ≡ true → (inside ts h r ≡ true) × All (Follows ts r) rs × (lawful ts h rs ≡ true)
+pub lawful_parts : (ts : List Task) (h : ℕ) (r : Release) (rs : List Release) → lawful ts h (r ∷ rs) ≡ true → (inside ts h r ≡ true) × AllByRecursion (Follows ts r) rs × (lawful ts h rs ≡ true)
 lawful_parts ts h r rs e =
     let w = and_parts (inside ts h r) (all_may_follow ts r rs && lawful ts h rs) e in
     let v = and_parts (all_may_follow ts r rs) (lawful ts h rs) w.1 in

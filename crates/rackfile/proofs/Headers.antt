@@ -1,5 +1,6 @@
 -- A header without a fault is the header's bytes, and the other way round.
 use Rattle.std.proofs.Common.{◌≡◌, ℕ, zero, suc, ◌+◌, ◌-◌, ◌*◌, ◌/◌, ◌%◌, ◌^◌, ◌<◌, ◌≤◌, Bool, true, false, cond, not, ◌&&◌, eqb, ltb, leb, ◌⊎◌, List, [], ◌∷◌, ◌++◌, length, get_or, drop, is_some, Some, None, Option, sym, refl, ap, ◌∙◌, subst, inl, inr, arith}
+use Rattle.std.proofs.lemmas.List.Elements.{All-drop}
 use Rattle.std.proofs.lemmas.Bool.{and_parts, cond-false, ltb-false, le-ltb, eqb-true, not-false, not_from_true, cases_Bool}
 use Rattle.preferences.specs.declared.policy.Policy.{Policy}
 use Rattle.preferences.specs.declared.policy.Policy.TheVariants.{First, Best, Worst}
@@ -55,16 +56,6 @@ nine (a ∷ (b ∷ (c ∷ (d ∷ (e ∷ (f ∷ (g ∷ []))))))) l = absurd (omeg
 nine (a ∷ (b ∷ (c ∷ (d ∷ (e ∷ (f ∷ (g ∷ (h ∷ [])))))))) l = absurd (omega arith)
 nine (a ∷ (b ∷ (c ∷ (d ∷ (e ∷ (f ∷ (g ∷ (h ∷ (i ∷ s))))))))) l = refl
 
-byte_at : (s : List ℕ) (k : ℕ) → AreBytes s → k < length s → get_or s k 0 < 256
-byte_at [] k b l = absurd (omega arith)
-byte_at (x ∷ s) zero b l = b.0
-byte_at (x ∷ s) (suc k) b l = byte_at s k b.1 (omega arith)
-
-all_after : (n : ℕ) (s : List ℕ) → AreBytes s → AreBytes (drop n s)
-all_after zero s b = b
-all_after (suc n) [] b = b
-all_after (suc n) (x ∷ s) b = all_after n s b.1
-
 pub record HeaderBack (s : List ℕ) (p : Policy) : Type 0 where
   pub bytes : s ≡ header_bytes p (get_or s 6 0) (count_in s) ++ drop 9 s
   pub long : 9 ≤ length s
@@ -94,8 +85,8 @@ header_back whole s p b e Named-by =
     let high : get_or s 3 0 ≡ 0 = omega arith in
     let low : get_or s 4 0 ≡ 1 = omega arith in
     let letter = letter_named (get_or s 5 0) p Named-by in
-    let b7 = byte_at s 7 b (omega arith) in
-    let b8 = byte_at s 8 b (omega arith) in
+    let b7 = b 7 0 (omega arith) in
+    let b8 = b 8 0 (omega arith) in
     let more : get_or s 7 0 ≡ count_in s / 256 = omega arith in
     let less : get_or s 8 0 ≡ count_in s % 256 = omega arith in
     let n9 = nine s long in
@@ -104,7 +95,7 @@ header_back whole s p b e Named-by =
       long = long;
       processors = not-false (processors_allowed (get_or s 6 0)) c8.0;
       few = omega arith;
-      rest = all_after 9 s b;
+      rest = All-drop (λ z. z < 256) 9 s b;
     }
 
 -- the bytes of a header have no fault

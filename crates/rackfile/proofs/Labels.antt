@@ -1,13 +1,14 @@
 -- A label stands in the input at its place.
 use Rattle.std.proofs.Common.{◌≡◌, ℕ, ◌+◌, ◌≤◌, true, ◌&&◌, eqb, List, [], ◌∷◌, ◌++◌, length, take, drop, sym, refl, ap, ◌∙◌, arith}
-use Rattle.std.specs.List.{AllByRecursion as All}
+use Rattle.std.specs.List.{AllByRecursion}
 use Rattle.std.proofs.lemmas.List.{append_assoc, length-append, take_at, drop_at}
+use Rattle.std.proofs.lemmas.List.Elements.{All-from_recursion}
 use Rattle.std.proofs.lemmas.Bool.{and_parts, eqb-true}
 use Rattle.rackfile.specs.Records.{Seen, admits, withdraws}
 use Rattle.rackfile.specs.Format.{word, header_bytes, record_bytes, records_bytes, all_placed}
 use Rattle.rackfile.specs.Exact.{Shows, LabelsAreThere}
 
-there : (input front : List ℕ) (at : ℕ) (vs : List Seen) → length front ≡ at → input ≡ front ++ records_bytes vs → all_placed at vs ≡ true → All (Shows input) vs
+there : (input front : List ℕ) (at : ℕ) (vs : List Seen) → length front ≡ at → input ≡ front ++ records_bytes vs → all_placed at vs ≡ true → AllByRecursion (Shows input) vs
 there input front at [] l e p = tt
 there input front at (withdraws n ∷ vs) l e p =
     (tt, there input (front ++ record_bytes (withdraws n)) (at + 5) vs (omega (arith, length-append front (record_bytes (withdraws n)))) (e ∙ sym (append_assoc front (record_bytes (withdraws n)) (records_bytes vs))) p)
@@ -23,4 +24,4 @@ there input front at (admits n c t l place ∷ vs) long e p =
     (label, there input (front ++ bytes) (at + 14 + length l) vs (omega (arith, length-append front bytes)) (e ∙ sym (append_assoc front bytes (records_bytes vs))) h.1)
 
 pub labels_are_there : LabelsAreThere
-labels_are_there input f s = there input (header_bytes f.policy f.m (length f.records)) 9 f.records refl s.bytes s.places
+labels_are_there input f s = All-from_recursion (Shows input) f.records (there input (header_bytes f.policy f.m (length f.records)) 9 f.records refl s.bytes s.places)

@@ -1,6 +1,7 @@
 -- Bytes are read as a file exactly when they stand for it.
 use Rattle.std.proofs.Common.{◌≡◌, ℕ, zero, suc, ◌+◌, ◌^◌, ◌<◌, ◌≤◌, Bool, true, false, cond, ◌&&◌, eqb, ltb, ◌↔◌, List, [], ◌∷◌, ◌++◌, length, get_or, drop, Some, None, Ok, Err, Option, Result, sym, refl, ap, ◌∙◌, subst, arith}
 use Rattle.std.proofs.lemmas.List.{append_assoc, append-nil, length-append, length-drop, nil_from_length}
+use Rattle.std.proofs.lemmas.List.Elements.{All-from_get_or}
 use Rattle.std.proofs.lemmas.Bool.{and_parts, and_from, cond-true, cond-false, ltb-false, le-ltb, eqb-true}
 use Rattle.preferences.specs.declared.policy.Policy.{Policy}
 use Rattle.rackfile.specs.declared.fault.RecordFault.{RecordFault}
@@ -133,5 +134,4 @@ pub not_both : NotBoth
 not_both input f e b s h = let q = sym (reads input f s) ∙ h in let z : ◌≡◌ {A = ℕ} 0 1 = cc in omega arith
 
 pub bytes_from : (s : List ℕ) → ((i : ℕ) → get_or s i 0 < 256) → AreBytes s
-bytes_from [] h = tt
-bytes_from (x ∷ s) h = (h 0, bytes_from s (λ i. h (suc i)))
+bytes_from s h = All-from_get_or (λ z. z < 256) s 0 (λ i lt. h i)

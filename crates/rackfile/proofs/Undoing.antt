@@ -1,6 +1,6 @@
 -- From what was read back to the bytes.
 use Rattle.std.proofs.Common.{◌≡◌, ℕ, zero, suc, ◌+◌, ◌-◌, ◌*◌, ◌/◌, ◌%◌, ◌^◌, ◌<◌, ◌≤◌, Bool, true, false, cond, ◌&&◌, leb, List, [], ◌∷◌, ◌++◌, length, take, drop, Some, None, Ok, Err, Option, Result, sym, refl, ap, ◌∙◌, subst, arith}
-use Rattle.std.specs.List.{AllByRecursion as All}
+use Rattle.std.proofs.lemmas.List.Elements.{All-drop, All-tail}
 use Rattle.std.proofs.lemmas.List.{take-append-drop, length-take-le}
 use Rattle.std.proofs.lemmas.Bool.{leb-true}
 use Rattle.rackfile.specs.declared.fault.BytesFault.{BytesFault}
@@ -49,7 +49,7 @@ byte_back (x ∷ s) a r b e =
     let both = some_back (x, s) (a, r) e in
     let p : x ≡ a = ap (λ z. z.0) both in
     let q : s ≡ r = ap (λ z. z.1) both in
-    (ap (λ k. k ∷ s) p ∙ ap (λ l. a ∷ l) q, subst AreBytes q b.1)
+    (ap (λ k. k ∷ s) p ∙ ap (λ l. a ∷ l) q, subst AreBytes q (All-tail (λ z. z < 256) x s b))
 
 pub record WordBack (s : List ℕ) (n : ℕ) (r : List ℕ) : Type 0 where
   pub bytes : s ≡ word n ++ r
@@ -65,10 +65,10 @@ word_back (a ∷ (b ∷ (c ∷ (d ∷ s)))) n r h e =
     let both = some_back (a * 16777216 + b * 65536 + c * 256 + d, s) (n, r) e in
     let p : a * 16777216 + b * 65536 + c * 256 + d ≡ n = ap (λ z. z.0) both in
     let q : s ≡ r = ap (λ z. z.1) both in
-    let ha = h.0 in
-    let hb = h.1.0 in
-    let hc = h.1.1.0 in
-    let hd = h.1.1.1.0 in
+    let ha = h 0 0 (omega arith) in
+    let hb = h 1 0 (omega arith) in
+    let hc = h 2 0 (omega arith) in
+    let hd = h 3 0 (omega arith) in
     let e1 : a ≡ n / 16777216 = omega arith in
     let e2 : b ≡ n / 65536 % 256 = omega arith in
     let e3 : c ≡ n / 256 % 256 = omega arith in
@@ -77,18 +77,13 @@ word_back (a ∷ (b ∷ (c ∷ (d ∷ s)))) n r h e =
       bytes = ap (λ k. k ∷ (b ∷ (c ∷ (d ∷ s)))) e1 ∙ ap (λ k. n / 16777216 ∷ (k ∷ (c ∷ (d ∷ s)))) e2 ∙ ap (λ k. n / 16777216 ∷ (n / 65536 % 256 ∷ (k ∷ (d ∷ s)))) e3
           ∙ ap (λ k. n / 16777216 ∷ (n / 65536 % 256 ∷ (n / 256 % 256 ∷ (k ∷ s)))) e4 ∙ ap (λ l. word n ++ l) q;
       small = omega arith;
-      rest = subst AreBytes q h.1.1.1.1;
+      rest = subst AreBytes q (All-drop (λ z. z < 256) 4 (a ∷ (b ∷ (c ∷ (d ∷ s)))) h);
     }
 
 pub record PartBack (n : ℕ) (s l r : List ℕ) : Type 0 where
   pub bytes : s ≡ l ++ r
   pub long : length l ≡ n
   pub rest : AreBytes r
-
-all_drop : (n : ℕ) (s : List ℕ) → AreBytes s → AreBytes (drop n s)
-all_drop zero s b = b
-all_drop (suc n) [] b = b
-all_drop (suc n) (x ∷ s) b = all_drop n s b.1
 
 pub part_back : (n : ℕ) (s l r : List ℕ) → AreBytes s → take_part n s ≡ Some (l, r) → PartBack n s l r
 part_back n s l r b e = go (leb n (length s)) refl e
@@ -102,5 +97,5 @@ part_back n s l r b e = go (leb n (length s)) refl e
         record {
           bytes = sym (take-append-drop n s) ∙ ap (λ x. x ++ drop n s) p ∙ ap (λ x. l ++ x) d;
           long = sym (ap length p) ∙ length-take-le n s (leb-true n (length s) q);
-          rest = subst AreBytes d (all_drop n s b);
+          rest = subst AreBytes d (All-drop (λ z. z < 256) n s b);
         }

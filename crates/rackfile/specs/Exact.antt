@@ -1,6 +1,5 @@
 -- What reading a file means: exactly the bytes that stand for a file are read as it, and all others have exactly one fault.
-use Rattle.std.specs.Prelude.{◌≡◌, ℕ, ◌^◌, ◌<◌, ◌≤◌, true, ◌↔◌, List, length, take, drop, Ok, Err, Result, ◌≢◌}
-use Rattle.std.specs.List.{AllByRecursion as All}
+use Rattle.std.specs.Prelude.{◌≡◌, ℕ, ◌^◌, ◌<◌, ◌≤◌, true, ◌↔◌, List, length, take, drop, Ok, Err, Result, ◌≢◌, All}
 use Rattle.rackfile.specs.declared.fault.FileFault.{FileFault}
 use Rattle.rackfile.specs.declared.file.RackFile.{RackFile}
 use Rattle.rackfile.specs.declared.file.ReadError.{ReadError}

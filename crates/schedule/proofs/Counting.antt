@@ -1,6 +1,6 @@
 -- Lawful release lists alone: two releases of a place are its period apart, so a window has no more of them than its length over the period, rounded up.
 use Rattle.std.proofs.Common.{◌≡◌, ℕ, zero, suc, ◌+◌, ◌%◌, ◌<◌, ◌≤◌, true, cond, ◌&&◌, eqb, ◌⊎◌, List, [], ◌∷◌, length, get_or, take, sym, ◌∙◌, subst, inl, inr, add-zero, zero-add, arith, length-take, get_or-take}
-use Rattle.std.specs.List.{AllByRecursion as All}
+use Rattle.std.specs.List.{AllByRecursion}
 use Rattle.std.proofs.lemmas.Nat.{mul-le}
 use Rattle.std.proofs.lemmas.Bool.{or_cases, and_parts, eqb-true, false≢true}
 use Rattle.tasks.specs.declared.task.Task.{Task}
@@ -22,7 +22,7 @@ pub record Found (P : Release → Type 0) (p t : ℕ) : Type 0 where
 pub due_head : (r : Release) (p t : ℕ) → (eqb r.place p && eqb r.instant.0 t) ≡ true → (r.place ≡ p) × (r.instant.0 ≡ t)
 due_head r p t h = let w = and_parts (eqb r.place p) (eqb r.instant.0 t) h in (eqb-true r.place p w.0, eqb-true r.instant.0 t w.1)
 
-pub due_find : (P : Release → Type 0) (rs : List Release) (p t : ℕ) → All P rs → due rs p t ≡ true → Found P p t
+pub due_find : (P : Release → Type 0) (rs : List Release) (p t : ℕ) → AllByRecursion P rs → due rs p t ≡ true → Found P p t
 due_find P [] p t a h = absurd (false≢true h)
 due_find P (r ∷ rs) p t a h = elim (or_cases (eqb r.place p && eqb r.instant.0 t) (due rs p t) h) [
   | inl e ↦ let w = due_head r p t e in record { it = r; holds = a.0; place = w.0; instant = w.1 }
@@ -55,7 +55,7 @@ arrive rs place [] now = 0
 arrive rs place (t ∷ ts) now = cond (due rs place now) t.work.0 0 + arrive rs (suc place) ts now
 
 -- releases far enough apart bring at most C × (x / T, rounded up) of each task in any x ticks,
-arrive_most : (rs : List Release) (p : ℕ) (ts : List Task) (a x : ℕ) → All Limits ts
+arrive_most : (rs : List Release) (p : ℕ) (ts : List Task) (a x : ℕ) → AllByRecursion Limits ts
     → ((j : ℕ) → j < length ts → Apart (due rs (p + j)) (get_or ts j no_task).period.0)
     → win (arrive rs p ts) a x ≤ work_before ts x
 arrive_most rs p [] a zero s h = omega arith
@@ -70,7 +70,7 @@ arrive_most rs p (t ∷ ts) a x s h =
     omega arith
 
 -- and those at every multiple of the periods below H at least that in the first x.
-arrive_least : (rs : List Release) (p : ℕ) (ts : List Task) (H x : ℕ) → All Limits ts
+arrive_least : (rs : List Release) (p : ℕ) (ts : List Task) (H x : ℕ) → AllByRecursion Limits ts
     → ((j n : ℕ) → j < length ts → n < H → n % (get_or ts j no_task).period.0 ≡ 0 → due rs (p + j) n ≡ true) → x ≤ H
     → work_before ts x ≤ win (arrive rs p ts) 0 x
 arrive_least rs p [] H x s h l = omega arith
@@ -87,11 +87,11 @@ module _ (ts : List Task) (rs : List Release) (k : ℕ) where
   front_is : (j : ℕ) → j < length (take k ts) → (j < k) × (j < length ts) × (get_or (take k ts) j no_task ≡ get_or ts j no_task)
   front_is j l = let i : j < k = omega (arith, length-take k ts) in (i, omega (arith, length-take k ts), get_or-take k ts j no_task i)
 
-  pub come_most : All Limits (take k ts) → Ordered ts rs → (a x : ℕ) → win (arrive rs 0 (take k ts)) a x ≤ work_before (take k ts) x
+  pub come_most : AllByRecursion Limits (take k ts) → Ordered ts rs → (a x : ℕ) → win (arrive rs 0 (take k ts)) a x ≤ work_before (take k ts) x
   come_most s o a x = arrive_most rs 0 (take k ts) a x s (λ j l. let f = front_is j l in
       subst (λ z. Apart (due rs z) (get_or (take k ts) j no_task).period.0) (sym (zero-add j)) (subst (λ (z : Task). Apart (due rs j) z.period.0) (sym f.2) (due_apart ts rs j o)))
 
-  pub come_least : All Limits (take k ts) → (H : ℕ) → ((j n : ℕ) → j < k → j < length ts → n < H → n % (get_or ts j no_task).period.0 ≡ 0 → due rs j n ≡ true)
+  pub come_least : AllByRecursion Limits (take k ts) → (H : ℕ) → ((j n : ℕ) → j < k → j < length ts → n < H → n % (get_or ts j no_task).period.0 ≡ 0 → due rs j n ≡ true)
       → (x : ℕ) → x ≤ H → work_before (take k ts) x ≤ win (arrive rs 0 (take k ts)) 0 x
   come_least s H h x l = arrive_least rs 0 (take k ts) H x s (λ j n i a b. let f = front_is j i in
       subst (λ z. due rs z n ≡ true) (sym (zero-add j)) (h j n f.0 f.1 a (subst (λ (z : Task). n % z.period.0 ≡ 0) f.2 b))) l

@@ -1,6 +1,6 @@
 -- A good instant is enough: the core, with what a lawful list can release.
 use Rattle.std.proofs.Common.{◌≡◌, ℕ, ◌+◌, ◌*◌, ◌<◌, ◌≤◌, true, List, length, get_or, take, Some, None, Option, refl, subst, arith}
-use Rattle.std.specs.List.{AllByRecursion as All}
+use Rattle.std.specs.List.{AllByRecursion}
 use Rattle.std.proofs.ByRecursion.{All-take}
 use Rattle.std.proofs.lemmas.Bool.{both_ways}
 use Rattle.tasks.specs.declared.task.Task.{Task}
@@ -26,13 +26,13 @@ use Rattle.schedule.proofs.Counting.{due_apart, come_most}
 use Rattle.schedule.proofs.Runs.{some_late, runs_follow_traces}
 
 -- a task that waits was released before, and its deadline is a period after that
-pub waits_from : (ts : List Task) (rs : List Release) → All Limits ts → (k : ℕ) → k < length ts → (now : ℕ) (left : Units) (deadline : Ticks) → own_state ts rs k now ≡ Waiting left deadline
+pub waits_from : (ts : List Task) (rs : List Release) → AllByRecursion Limits ts → (k : ℕ) → k < length ts → (now : ℕ) (left : Units) (deadline : Ticks) → own_state ts rs k now ≡ Waiting left deadline
     → core.Open (come_above ts rs k) (due rs k) 1 (get_or ts k no_task).work.0 (get_or ts k no_task).period.0 now now (held_above ts rs k now) left.0 deadline.0
 waits_from ts rs s k l = core.opened (come_above ts rs k) (due rs k) 1 (get_or ts k no_task).work.0 (get_or ts k no_task).period.0 (held_above ts rs k) (own_state ts rs k) (own_ready ts rs k)
     (held_start ts rs k) (own_start ts rs k) (own_renewed ts rs k (limits_work ts s) l) (own_tick ts rs k (limits_work ts s))
 
 -- g ticks leave the task at place k its work, wherever they begin
-room : (ts : List Task) → All Limits ts → (k g : ℕ) → good_at ts k g ≡ true → (horizon : ℕ) (rs : List Release) → lawful ts horizon rs ≡ true
+room : (ts : List Task) → AllByRecursion Limits ts → (k g : ℕ) → good_at ts k g ≡ true → (horizon : ℕ) (rs : List Release) → lawful ts horizon rs ≡ true
     → (a : ℕ) → win (come_above ts rs k) a g + (get_or ts k no_task).work.0 ≤ 1 * g
 room ts s k g good horizon rs law a =
     omega (arith, (good_parts (get_or ts k no_task) (take k ts) g good).enough, come_most ts rs k (All-take Limits k ts s) (lawful_parts ts horizon rs law).ordered a g)

@@ -1,6 +1,6 @@
 -- A list fits exactly when nothing can miss, and in priority order fails to fit exactly when each order can miss.
 use Rattle.std.proofs.Common.{◌≡◌, ℕ, zero, suc, ◌<◌, ◌≤◌, true, ◌⊎◌, List, [], ◌∷◌, length, get_or, take, Some, None, Option, sym, refl, ◌∙◌, subst, inl, inr, arith}
-use Rattle.std.specs.List.{AllByRecursion as All}
+use Rattle.std.specs.List.{AllByRecursion}
 use Rattle.std.specs.List.Sorted.{IsPermutation}
 use Rattle.std.proofs.lemmas.Bool.{cases_lt, both_ways, and_parts, and_from}
 use Rattle.std.proofs.lemmas.List.Sorted.{IsPermutation-refl}
@@ -56,11 +56,11 @@ pub unfit_exactly_when_can_miss : UnfitExactlyWhenCanMiss
 unfit_exactly_when_can_miss ts h = (λ bad. unfit_can_miss ts h (unfit_from ts bad), λ m f. cannot_miss ts (fitting_list_is_safe ts h f) m)
 
 -- the limits hold in each order
-within_all : (ts : List Task) → all_within ts ≡ true → All (λ x. within_limits x ≡ true) ts
+within_all : (ts : List Task) → all_within ts ≡ true → AllByRecursion (λ x. within_limits x ≡ true) ts
 within_all [] h = tt
 within_all (x ∷ xs) h = let p = and_parts (within_limits x) (all_within xs) h in (p.0, within_all xs p.1)
 
-all_to_within : (ts : List Task) → All (λ x. within_limits x ≡ true) ts → all_within ts ≡ true
+all_to_within : (ts : List Task) → AllByRecursion (λ x. within_limits x ≡ true) ts → all_within ts ≡ true
 all_to_within [] a = refl
 all_to_within (x ∷ xs) a = and_from (within_limits x) (all_within xs) a.0 (all_to_within xs a.1)
 

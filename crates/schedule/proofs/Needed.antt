@@ -1,7 +1,7 @@
 -- Without a good instant the synchronous releases make a task miss.
 use Rattle.std.proofs.Common.{◌≡◌, ℕ, suc, ◌+◌, ◌-◌, ◌%◌, ◌<◌, ◌≤◌, true, false, List, length, get_or, take, Some, None, Option, sym, refl, ap, ◌∙◌, subst, inl, inr, mod-eq_of_lt, zero-add, arith, length-take, get_or-take}
 use native.Mathlib.Nat.{zero-mod}
-use Rattle.std.specs.List.{AllByRecursion as All}
+use Rattle.std.specs.List.{AllByRecursion}
 use Rattle.std.proofs.lemmas.List.{take_all}
 use Rattle.std.proofs.ByRecursion.{All-take, All-get_or}
 use Rattle.std.proofs.lemmas.Bool.{cases_Bool, cond-true, cond-false}
@@ -39,7 +39,7 @@ module _ (ts : List Task) (within : all_within ts ≡ true) (k m : ℕ) (below :
   abbrev C : Units
   C = (get_or ts k no_task).work
 
-  s : All Limits ts
+  s : AllByRecursion Limits ts
   s = all_limits ts within
 
   l : k < length ts

@@ -1,6 +1,6 @@
 -- The parts of a lawful release list, which the definition says as one test; and back from the parts.
 use Rattle.std.proofs.Common.{◌≡◌, ℕ, ◌+◌, ◌<◌, ◌≤◌, Bool, true, not, ◌&&◌, ◌||◌, eqb, ltb, leb, List, [], ◌∷◌, length, get_or, refl, inl, inr}
-use Rattle.std.specs.List.{AllByRecursion as All}
+use Rattle.std.specs.List.{AllByRecursion}
 use Rattle.std.proofs.lemmas.Bool.{and_parts, and_from, or_cases, or_left, or_right, leb-true, le-leb, ltb-true, lt-ltb, eqb-true, eqb-false, not-true, not_from_false, cases_Bool}
 use Rattle.tasks.specs.declared.task.Task.{Task}
 use Rattle.tasks.specs.Demand.{no_task}
@@ -19,10 +19,10 @@ pub record After (ts : List Task) (r q : Release) : Type 0 where
 
 abbrev pub Ordered : List Task → List Release → Type 0
 Ordered ts [] = Unit
-Ordered ts (r ∷ rs) = All (After ts r) rs × Ordered ts rs
+Ordered ts (r ∷ rs) = AllByRecursion (After ts r) rs × Ordered ts rs
 
 pub record LawfulParts (ts : List Task) (horizon : ℕ) (rs : List Release) : Type 0 where
-  pub within : All (Within ts horizon) rs
+  pub within : AllByRecursion (Within ts horizon) rs
   pub ordered : Ordered ts rs
 
 within_parts : (ts : List Task) (horizon : ℕ) (r : Release) → inside ts horizon r ≡ true → Within ts horizon r
@@ -57,11 +57,11 @@ module _ (ts : List Task) (r q : Release) where
         | inr e ↦ or_left (not (eqb r.place q.place)) late_enough (not_from_false (eqb r.place q.place) e)
       ])
 
-follow_parts : (ts : List Task) (r : Release) (qs : List Release) → all_may_follow ts r qs ≡ true → All (After ts r) qs
+follow_parts : (ts : List Task) (r : Release) (qs : List Release) → all_may_follow ts r qs ≡ true → AllByRecursion (After ts r) qs
 follow_parts ts r [] h = tt
 follow_parts ts r (q ∷ qs) h = let a = and_parts (may_follow ts r q) (all_may_follow ts r qs) h in (after_parts ts r q a.0, follow_parts ts r qs a.1)
 
-follow_from : (ts : List Task) (r : Release) (qs : List Release) → All (After ts r) qs → all_may_follow ts r qs ≡ true
+follow_from : (ts : List Task) (r : Release) (qs : List Release) → AllByRecursion (After ts r) qs → all_may_follow ts r qs ≡ true
 follow_from ts r [] a = refl
 follow_from ts r (q ∷ qs) a = and_from (may_follow ts r q) (all_may_follow ts r qs) (after_from ts r q a.0) (follow_from ts r qs a.1)
 

@@ -1,7 +1,7 @@
 -- The published test: its W(t), its scheduling points, and who passes it.
 use Rattle.std.proofs.Common.{◌≡◌, ℕ, zero, suc, ◌*◌, ◌/◌, ◌%◌, ◌<◌, ◌≤◌, true, eqb, leb, List, [], ◌∷◌, length, get_or, sym, refl, subst, inl, inr, div-add-mod', le-div_iff_mul-le, zero-mul, mul-one, arith}
 use native.Mathlib.Nat.{mul-mod_left}
-use Rattle.std.specs.List.{AllByRecursion as All}
+use Rattle.std.specs.List.{AllByRecursion}
 use Rattle.std.proofs.lemmas.Bool.{cases_lt, or_cases, or_left, or_right, eqb-true, eq-eqb, false≢true, and_from, le-leb}
 use Rattle.std.proofs.lemmas.Nat.{mul-le}
 use Rattle.std.proofs.ByRecursion.{All-get_or}
@@ -16,7 +16,7 @@ use Rattle.tasks.proofs.Points.{point_parts, point_from, points_suffice as good_
 use Rattle.schedule.specs.Published.{UpIsTheCeiling, DemandIsTotalWork, InPublishedSet, PointsArePublished, PointsSuffice, Passes}
 
 -- within the limits periods exist
-pub periods_from : (ys : List Task) → All Limits ys → periods_exist ys ≡ true
+pub periods_from : (ys : List Task) → AllByRecursion Limits ys → periods_exist ys ≡ true
 periods_from [] a = refl
 periods_from (y ∷ ys) a = and_from (leb 1 y.period.0) (periods_exist ys) (le-leb 1 y.period.0 a.0.period_from) (periods_from ys a.1)
 
@@ -47,7 +47,7 @@ multiple_from (y ∷ ys) t (suc j) l e = or_right (eqb (t % y.period.0) 0) (mult
 pub points_are_published : PointsArePublished
 points_are_published x above t h = (to, from)
   where
-    s : All Limits (x ∷ above)
+    s : AllByRecursion Limits (x ∷ above)
     s = all_limits (x ∷ above) h
 
     to : point x above t ≡ true → InPublishedSet x above t
@@ -79,7 +79,7 @@ points_are_published x above t h = (to, from)
         })
 
 -- A task passes the published test exactly when it has a good instant.
-pub good_passes : (x : Task) (above : List Task) → All Limits above → (t : ℕ) × (good x above t ≡ true) → Passes x above
+pub good_passes : (x : Task) (above : List Task) → AllByRecursion Limits above → (t : ℕ) × (good x above t ≡ true) → Passes x above
 good_passes x above a g =
     let p = good_point x above g.0 (periods_from above a) g.1 in
     let q = good_parts x above p.at p.is_good in

@@ -1,7 +1,7 @@
 -- One tick of the machine, as one place sees it: the equations of the core, and nothing of demand or of laws of releases.
 use Rattle.std.proofs.Common.{◌≡◌, ℕ, zero, suc, ◌+◌, ◌-◌, ◌<◌, ◌≤◌, Bool, true, false, cond, leb, List, [], ◌∷◌, length, get_or, take, replicate, sym, refl, ap, ◌∙◌, subst, inl, inr, add-zero, zero-add, arith}
 use lib.ListN.{length-replicate}
-use Rattle.std.specs.List.{AllByRecursion as All}
+use Rattle.std.specs.List.{AllByRecursion}
 use Rattle.std.proofs.lemmas.Bool.{cond_both, cond-true, cond-false, leb-true, leb-false}
 use Rattle.std.proofs.ByRecursion.{All-get_or, All-weaker}
 use Rattle.tasks.specs.declared.task.Task.{Task}
@@ -21,7 +21,7 @@ use Rattle.schedule.proofs.Critical.{spend, Renewed, Tick}
 abbrev pub Works : Task → Type 0
 Works x = 1 ≤ x.work.0
 
-pub limits_work : (ts : List Task) → All Limits ts → All Works ts
+pub limits_work : (ts : List Task) → AllByRecursion Limits ts → AllByRecursion Works ts
 limits_work ts a = All-weaker Limits Works (λ x l. l.work_from) ts a
 
 -- what is left of a job, and of the jobs of a list
@@ -38,7 +38,7 @@ abbrev pub Live : State → Type 0
 Live Idle = Unit
 Live (Waiting left deadline) = 1 ≤ left.0
 
-live_at : (ss : List State) (k : ℕ) → All Live ss → Live (get_or ss k Idle)
+live_at : (ss : List State) (k : ℕ) → AllByRecursion Live ss → Live (get_or ss k Idle)
 live_at [] k a = tt
 live_at (s ∷ ss) zero a = a.0
 live_at (s ∷ ss) (suc k) a = live_at ss k a.1
@@ -46,22 +46,22 @@ live_at (s ∷ ss) (suc k) a = live_at ss k a.1
 live_worked : (l : Units) (d : Ticks) → Live (worked l d)
 live_worked l d = cond_both (leb l.0 1) Idle (Waiting (record { 0 = l.0 - 1 }) d) (λ s. Live s) (λ e. tt) (λ e. omega (arith, leb-false l.0 1 e))
 
-live_served : (ss : List State) → All Live ss → All Live (served ss)
+live_served : (ss : List State) → AllByRecursion Live ss → AllByRecursion Live (served ss)
 live_served [] a = tt
 live_served (Idle ∷ ss) a = (tt, live_served ss a.1)
 live_served (Waiting l d ∷ ss) a = (live_worked l d, a.1)
 
-live_released : (rs : List Release) (now p : ℕ) (ts : List Task) (ss : List State) → All Works ts → All Live ss → All Live (with_releases rs now p ts ss)
+live_released : (rs : List Release) (now p : ℕ) (ts : List Task) (ss : List State) → AllByRecursion Works ts → AllByRecursion Live ss → AllByRecursion Live (with_releases rs now p ts ss)
 live_released rs now p [] ss w a = a
 live_released rs now p (t ∷ ts) [] w a = tt
 live_released rs now p (t ∷ ts) (s ∷ ss) w a =
     (cond_both (due rs p now) (Waiting t.work (record { 0 = now + t.period.0 })) s (λ x. Live x) (λ e. w.0) (λ e. a.0), live_released rs now (suc p) ts ss w.1 a.1)
 
-live_idle : (n : ℕ) → All Live (replicate n Idle)
+live_idle : (n : ℕ) → AllByRecursion Live (replicate n Idle)
 live_idle zero = tt
 live_idle (suc n) = (tt, live_idle n)
 
-pub live_states : (ts : List Task) (rs : List Release) (n : ℕ) → All Works ts → All Live (states_at ts rs n)
+pub live_states : (ts : List Task) (rs : List Release) (n : ℕ) → AllByRecursion Works ts → AllByRecursion Live (states_at ts rs n)
 live_states ts rs zero w = live_idle (length ts)
 live_states ts rs (suc n) w = live_served (with_releases rs n 0 ts (states_at ts rs n)) (live_released rs n 0 ts (states_at ts rs n) w (live_states ts rs n w))
 
@@ -71,7 +71,7 @@ spend_none (Waiting l d) p = cond_both (leb l.0 0) Idle (Waiting (record { 0 = l
     (λ e. absurd (omega (arith, leb-true l.0 0 e))) (λ e. let q : l.0 - 0 ≡ l.0 = omega arith in ap (λ (x : ℕ). Waiting (record { 0 = x }) d) q)
 
 -- The service of a tick. What the first k places hold falls by one unit,
-pub served_backlog : (k : ℕ) (ss : List State) → All Live ss → backlog (take k (served ss)) ≡ backlog (take k ss) - 1
+pub served_backlog : (k : ℕ) (ss : List State) → AllByRecursion Live ss → backlog (take k (served ss)) ≡ backlog (take k ss) - 1
 served_backlog zero ss a = omega arith
 served_backlog (suc k) [] a = omega arith
 served_backlog (suc k) (Idle ∷ ss) a = omega (arith, served_backlog k ss a.1)
@@ -79,7 +79,7 @@ served_backlog (suc k) (Waiting l d ∷ ss) a = cond_both (leb l.0 1) Idle (Wait
     (λ e. omega (arith, leb-true l.0 1 e, a.0)) (λ e. omega (arith, leb-false l.0 1 e))
 
 -- and the place below them spends what they leave of it.
-pub served_at : (k : ℕ) (ss : List State) → All Live ss → get_or (served ss) k Idle ≡ spend (1 - backlog (take k ss)) (get_or ss k Idle)
+pub served_at : (k : ℕ) (ss : List State) → AllByRecursion Live ss → get_or (served ss) k Idle ≡ spend (1 - backlog (take k ss)) (get_or ss k Idle)
 served_at zero [] a = refl
 served_at (suc k) [] a = refl
 served_at zero (Idle ∷ ss) a = refl
@@ -182,25 +182,25 @@ module _ (ts : List Task) (rs : List Release) (k : ℕ) where
   pub own_ready_is : (n : ℕ) → k < length ts → own_ready n ≡ cond (due rs k n) (Waiting (get_or ts k no_task).work (record { 0 = n + (get_or ts k no_task).period.0 })) (own_state n)
   own_ready_is n l = rw (zero-add k) at (released_at rs n 0 k ts (states_at ts rs n) (length-states ts rs n) l)
 
-  pub own_renewed : All Works ts → k < length ts → (n : ℕ) → Renewed (due rs k) (get_or ts k no_task).work.0 (get_or ts k no_task).period.0 n (own_state n) (own_ready n)
+  pub own_renewed : AllByRecursion Works ts → k < length ts → (n : ℕ) → Renewed (due rs k) (get_or ts k no_task).work.0 (get_or ts k no_task).period.0 n (own_state n) (own_ready n)
   own_renewed a l n = go (due rs k n) refl
     where
       go : (b : Bool) → due rs k n ≡ b → Renewed (due rs k) (get_or ts k no_task).work.0 (get_or ts k no_task).period.0 n (own_state n) (own_ready n)
       go true e = inr ((get_or ts k no_task).work, e, All-get_or Works ts k no_task l a, omega arith, own_ready_is n l ∙ cond-true (due rs k n) (Waiting (get_or ts k no_task).work (record { 0 = n + (get_or ts k no_task).period.0 })) (own_state n) e)
       go false e = inl (e, own_ready_is n l ∙ cond-false (due rs k n) (Waiting (get_or ts k no_task).work (record { 0 = n + (get_or ts k no_task).period.0 })) (own_state n) e)
 
-  live_ready : All Works ts → (n : ℕ) → All Live (with_releases rs n 0 ts (states_at ts rs n))
+  live_ready : AllByRecursion Works ts → (n : ℕ) → AllByRecursion Live (with_releases rs n 0 ts (states_at ts rs n))
   live_ready a n = live_released rs n 0 ts (states_at ts rs n) a (live_states ts rs n a)
 
   -- what the places above hold after the releases of an instant
   abbrev pub held_ready : ℕ → ℕ
   held_ready n = backlog (take k (with_releases rs n 0 ts (states_at ts rs n)))
 
-  pub above_falls : All Works ts → (n : ℕ) → held_above (suc n) ≡ held_ready n - 1
+  pub above_falls : AllByRecursion Works ts → (n : ℕ) → held_above (suc n) ≡ held_ready n - 1
   above_falls a n = served_backlog k (with_releases rs n 0 ts (states_at ts rs n)) (live_ready a n)
 
-  pub own_spends : All Works ts → (n : ℕ) → own_state (suc n) ≡ spend (1 - held_ready n) (own_ready n)
+  pub own_spends : AllByRecursion Works ts → (n : ℕ) → own_state (suc n) ≡ spend (1 - held_ready n) (own_ready n)
   own_spends a n = served_at k (with_releases rs n 0 ts (states_at ts rs n)) (live_ready a n)
 
-  pub own_tick : All Works ts → (n : ℕ) → Tick 1 (held_above (suc n)) (held_above n) (come_above n) (own_ready n) (own_state (suc n))
+  pub own_tick : AllByRecursion Works ts → (n : ℕ) → Tick 1 (held_above (suc n)) (held_above n) (come_above n) (own_ready n) (own_state (suc n))
   own_tick a n = record { held = held_ready n; bound = released_backlog rs n 0 k ts (states_at ts rs n) (length-states ts rs n); above = above_falls a n; own = own_spends a n }

@@ -1,6 +1,6 @@
 -- The synchronous releases are lawful, and release each task at every multiple of its period and at no other instant.
 use Rattle.std.proofs.Common.{◌≡◌, ℕ, zero, suc, ◌+◌, ◌*◌, ◌/◌, ◌%◌, ◌<◌, ◌≤◌, true, ◌&&◌, eqb, ◌⊎◌, List, [], ◌∷◌, ◌++◌, length, get_or, take, sym, refl, subst, inl, inr, suc-mul, div-add-mod', zero-add, arith, length-take, get_or-take}
-use Rattle.std.specs.List.{AllByRecursion as All}
+use Rattle.std.specs.List.{AllByRecursion}
 use Rattle.std.proofs.lemmas.Nat.{mul-le}
 use Rattle.std.proofs.lemmas.Bool.{or_left, or_right, or_cases, and_from, eq-eqb, eqb-true, cond_both, cases_lt, false≢true}
 use Rattle.std.proofs.ByRecursion.{All-append, All-weaker}
@@ -33,15 +33,15 @@ pub record Multiple (us : List Task) (p now : ℕ) (r : Release) : Type 0 where
   pub instant : r.instant.0 ≡ now
   pub whole : now % (get_or us at no_task).period.0 ≡ 0
 
-weaker : (u : Task) (us : List Task) (p now : ℕ) (rs : List Release) → All (Multiple us (suc p) now) rs → All (Multiple (u ∷ us) p now) rs
+weaker : (u : Task) (us : List Task) (p now : ℕ) (rs : List Release) → AllByRecursion (Multiple us (suc p) now) rs → AllByRecursion (Multiple (u ∷ us) p now) rs
 weaker u us p now rs a = All-weaker (Multiple us (suc p) now) (Multiple (u ∷ us) p now)
     (λ r m. record { at = suc m.at; inside = omega (arith, m.inside); place = omega (arith, m.place); instant = m.instant; whole = m.whole }) rs a
 
-together_all : (now p : ℕ) (us : List Task) → All (Multiple us p now) (together now p us)
+together_all : (now p : ℕ) (us : List Task) → AllByRecursion (Multiple us p now) (together now p us)
 together_all now p [] = tt
 together_all now p (u ∷ us) =
     let ih = weaker u us p now (together now (suc p) us) (together_all now (suc p) us) in
-    cond_both (eqb (now % u.period.0) 0) (record { place = p; instant = record { 0 = now } } ∷ together now (suc p) us) (together now (suc p) us) (λ rs. All (Multiple (u ∷ us) p now) rs)
+    cond_both (eqb (now % u.period.0) 0) (record { place = p; instant = record { 0 = now } } ∷ together now (suc p) us) (together now (suc p) us) (λ rs. AllByRecursion (Multiple (u ∷ us) p now) rs)
     (λ e. (record { at = 0; inside = omega arith; place = omega arith; instant = refl; whole = eqb-true (now % u.period.0) 0 e }, ih))
     (λ e. ih)
 
@@ -74,13 +74,13 @@ multiple_synced ts now more r m =
 later_synced : (ts : List Task) (now more : ℕ) (r : Release) → Synced ts (suc now) more r → Synced ts now (suc more) r
 later_synced ts now more r s = record { place = s.place; from = omega (arith, s.from); before = omega (arith, s.before); whole = s.whole }
 
-pub sync_all : (ts : List Task) (now more : ℕ) → All (Synced ts now more) (synchronous ts now more)
+pub sync_all : (ts : List Task) (now more : ℕ) → AllByRecursion (Synced ts now more) (synchronous ts now more)
 sync_all ts now zero = tt
 sync_all ts now (suc more) = All-append (Synced ts now (suc more)) (together now 0 ts) (synchronous ts (suc now) more)
     (All-weaker (Multiple ts 0 now) (Synced ts now (suc more)) (multiple_synced ts now more) (together now 0 ts) (together_all now 0 ts))
     (All-weaker (Synced ts (suc now) more) (Synced ts now (suc more)) (later_synced ts now more) (synchronous ts (suc now) more) (sync_all ts (suc now) more))
 
-ordered_append : (ts : List Task) (xs ys : List Release) → Ordered ts xs → Ordered ts ys → All (λ x. All (After ts x) ys) xs → Ordered ts (xs ++ ys)
+ordered_append : (ts : List Task) (xs ys : List Release) → Ordered ts xs → Ordered ts ys → AllByRecursion (λ x. AllByRecursion (After ts x) ys) xs → Ordered ts (xs ++ ys)
 ordered_append ts [] ys a b c = b
 ordered_append ts (x ∷ xs) ys a b c = (All-append (After ts x) xs ys a.0 c.0, ordered_append ts xs ys a.1 b c.1)
 
@@ -97,7 +97,7 @@ now_then ts now more r q m s = record { later = omega (arith, m.instant, s.from)
 sync_ordered : (ts : List Task) (now more : ℕ) → Ordered ts (synchronous ts now more)
 sync_ordered ts now zero = tt
 sync_ordered ts now (suc more) = ordered_append ts (together now 0 ts) (synchronous ts (suc now) more) (together_ordered ts now 0 ts) (sync_ordered ts (suc now) more)
-    (All-weaker (Multiple ts 0 now) (λ x. All (After ts x) (synchronous ts (suc now) more))
+    (All-weaker (Multiple ts 0 now) (λ x. AllByRecursion (After ts x) (synchronous ts (suc now) more))
     (λ r m. All-weaker (Synced ts (suc now) more) (After ts r) (λ q s. now_then ts now more r q m s) (synchronous ts (suc now) more) (sync_all ts (suc now) more))
     (together now 0 ts) (together_all now 0 ts))
 
@@ -112,14 +112,14 @@ module _ (m : ℕ) (ts : List Task) where
   front_same : (j : ℕ) → j < length (take m ts) → get_or (take m ts) j no_task ≡ get_or ts j no_task
   front_same j l = get_or-take m ts j no_task (omega (arith, length-take m ts))
 
-  front_within : (horizon : ℕ) (rs : List Release) → All (Within (take m ts) horizon) rs → All (Within ts horizon) rs
+  front_within : (horizon : ℕ) (rs : List Release) → AllByRecursion (Within (take m ts) horizon) rs → AllByRecursion (Within ts horizon) rs
   front_within horizon rs a = All-weaker (Within (take m ts) horizon) (Within ts horizon) (λ r w. record { place = omega (arith, w.place, length-take m ts); before = w.before }) rs a
 
-  front_after : (r : Release) → r.place < length (take m ts) → (rs : List Release) → All (After (take m ts) r) rs → All (After ts r) rs
+  front_after : (r : Release) → r.place < length (take m ts) → (rs : List Release) → AllByRecursion (After (take m ts) r) rs → AllByRecursion (After ts r) rs
   front_after r l rs a = All-weaker (After (take m ts) r) (After ts r)
       (λ q f. record { later = f.later; apart = λ e. subst (λ (z : Task). r.instant.0 + z.period.0 ≤ q.instant.0) (front_same r.place l) (f.apart e) }) rs a
 
-  front_ordered : (horizon : ℕ) (rs : List Release) → All (Within (take m ts) horizon) rs → Ordered (take m ts) rs → Ordered ts rs
+  front_ordered : (horizon : ℕ) (rs : List Release) → AllByRecursion (Within (take m ts) horizon) rs → Ordered (take m ts) rs → Ordered ts rs
   front_ordered horizon [] a o = tt
   front_ordered horizon (r ∷ rs) a o = (front_after r a.0.place rs o.0, front_ordered horizon rs a.1 o.1)
 

@@ -1,6 +1,6 @@
 -- The limits of a task, part by part.
 use Rattle.std.proofs.Common.{◌≡◌, ℕ, ◌+◌, ◌*◌, ◌<◌, ◌≤◌, true, ◌&&◌, leb, List, [], ◌∷◌, arith}
-use Rattle.std.specs.List.{AllByRecursion as All}
+use Rattle.std.specs.List.{AllByRecursion}
 use Rattle.std.proofs.lemmas.Bool.{and_parts, leb-true}
 use Rattle.tasks.specs.declared.task.Task.{Task}
 use Rattle.tasks.specs.Units.{units_in, one_a_tick}
@@ -24,6 +24,6 @@ limits x h =
       work_to = leb-true x.work.0 (units_in one_a_tick x.period.0) w.1;
     }
 
-pub all_limits : (xs : List Task) → all_within xs ≡ true → All Limits xs
+pub all_limits : (xs : List Task) → all_within xs ≡ true → AllByRecursion Limits xs
 all_limits [] h = tt
 all_limits (x ∷ xs) h = let p = and_parts (within_limits x) (all_within xs) h in (limits x p.0, all_limits xs p.1)

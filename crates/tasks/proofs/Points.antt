@@ -1,7 +1,7 @@
 -- Scheduling points suffice: where a task has a good instant, one of its scheduling points is good.
 use Rattle.std.proofs.Common.{◌≡◌, ℕ, ◌+◌, ◌*◌, ◌%◌, ◌<◌, ◌≤◌, Bool, true, false, ◌&&◌, ◌||◌, eqb, leb, ◌⊎◌, List, [], ◌∷◌, sym, refl, subst, inl, inr, one-mul, arith}
 use native.Mathlib.Nat.{mul-mod_left}
-use Rattle.std.specs.List.{AllByRecursion as All}
+use Rattle.std.specs.List.{AllByRecursion}
 use Rattle.std.proofs.lemmas.Nat.{mul-le}
 use Rattle.std.proofs.lemmas.Bool.{and_parts, and_from, or_cases, or_left, or_right, leb-true, le-leb, eq-eqb, cases_Bool, cases_lt}
 use Rattle.tasks.specs.declared.task.Task.{Task}
@@ -44,9 +44,9 @@ record Nearest (t : ℕ) (x : Task) (above : List Task) : Type 0 where
   multiple : multiple_of_one (x ∷ above) at ≡ true
   from : t ≤ at
   own : at ≤ next t x
-  others : All (λ y. at ≤ next t y) above
+  others : AllByRecursion (λ y. at ≤ next t y) above
 
-lower : (m n t : ℕ) (ys : List Task) → n ≤ m → All (λ y. m ≤ next t y) ys → All (λ y. n ≤ next t y) ys
+lower : (m n t : ℕ) (ys : List Task) → n ≤ m → AllByRecursion (λ y. m ≤ next t y) ys → AllByRecursion (λ y. n ≤ next t y) ys
 lower m n t [] h a = tt
 lower m n t (y ∷ ys) h a = (omega arith, lower m n t ys h a.1)
 
@@ -75,7 +75,7 @@ nearest t x (y ∷ ys) s a = go (and_parts (leb 1 y.period.0) (periods_exist ys)
         ]
 
 -- up to there the work asked for stays the same
-work_kept : (t m : ℕ) (ys : List Task) → periods_exist ys ≡ true → All (λ y. m ≤ next t y) ys → work_before ys m ≤ work_before ys t
+work_kept : (t m : ℕ) (ys : List Task) → periods_exist ys ≡ true → AllByRecursion (λ y. m ≤ next t y) ys → work_before ys m ≤ work_before ys t
 work_kept t m [] a n = omega arith
 work_kept t m (y ∷ ys) a n =
     let p = and_parts (leb 1 y.period.0) (periods_exist ys) a in

@@ -1,6 +1,6 @@
 use Rattle.std.proofs.Common.{◌≡◌, ◌++◌, refl, lit≤}
-use Rattle.std.specs.List.{AllByRecursion as All}
-use Rattle.std.proofs.ByRecursion.{All-append}
+use Rattle.std.specs.List.{AllByRecursion}
+use Rattle.std.proofs.lemmas.List.Elements.{All-append, All-from_recursion}
 use Rattle.tasks.specs.Rounding.{up}
 use Rattle.tasks.specs.Instants.{least}
 use Rattle.cases.specs.Cases.{Settled, computed, long, places, whole, task}
@@ -9,12 +9,15 @@ use Rattle.cases.proofs.Placed.{all_placed}
 use Rattle.cases.proofs.Sampled.{all_sampled}
 use Rattle.cases.proofs.worked_cases_hold.Goals as goal
 
-by_computing : All Settled computed
+by_computing : AllByRecursion Settled computed
 unfolding up least
 by_computing = ((refl, refl), ((refl, refl), ((refl, refl), ((refl, refl), ((refl, refl), ((refl, refl), ((refl, refl), ((refl, refl), (refl, (refl, (refl, ((refl, refl), ((refl, refl), tt)))))))))))))
 
-by_lemma : All Settled long
+by_lemma : AllByRecursion Settled long
 by_lemma = ((none_point (task 1 1000000) (lit≤ tt), none_least (task 1 1000000) (lit≤ tt)), tt)
 
 pub returns : goal.returns
-returns c = All-append Settled computed (long ++ (places ++ whole)) by_computing (All-append Settled long (places ++ whole) by_lemma (All-append Settled places whole all_placed all_sampled))
+returns c =
+    All-append Settled computed (long ++ (places ++ whole)) (All-from_recursion Settled computed by_computing)
+      (All-append Settled long (places ++ whole) (All-from_recursion Settled long by_lemma)
+        (All-append Settled places whole (All-from_recursion Settled places all_placed) (All-from_recursion Settled whole all_sampled)))

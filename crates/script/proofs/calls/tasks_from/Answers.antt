@@ -12,7 +12,7 @@ loop-i-preserved c =
     let done = vec_items c.loop-i.all in
     let t = plain_task (get_or ns i 0) (get_or ns (i + 1) 0) in
     let rest = tasks_of (drop (i + 2) ns) in
-    let pushed = c.in-ok-push.ensures.items ∙ ap (λ (x : Task). done ++ x ∷ []) c.task_of.ensures in (
+    let pushed = c.in_ok-push.ensures.items ∙ ap (λ (x : Task). done ++ x ∷ []) c.task_of.ensures in (
       omega arith,
       ap (λ (l : List Task). l ++ rest) pushed ∙ append_assoc done (t ∷ []) rest ∙ sym (ap (λ (l : List Task). done ++ l) (tasks_more ns i (omega arith))) ∙ c.loop-i.invariant.1,
     )

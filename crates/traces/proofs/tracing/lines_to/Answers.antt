@@ -4,8 +4,8 @@ use Rattle.machine.specs.Machine.{first_missed}
 use Rattle.traces.proofs.Instants.{states_first, sized, states_next, lines_next}
 use Rattle.traces.proofs.tracing.lines_to.Goals as goal
 
-pub next-line-requires : goal.next-line-requires
-next-line-requires c =
+pub next_line-requires : goal.next_line-requires
+next_line-requires c =
     let k = c.loop-at.at in
     record {
       sizes = sized c.args.tasks.now c.args.releases.now k c.loop-at.states c.loop-at.invariant.0;
@@ -21,7 +21,7 @@ loop-at-preserved c =
     let ts = c.args.tasks.now in
     let rs = c.args.releases.now in
     let k = c.loop-at.at in (
-      states_next ts rs k c.loop-at.states c.loop-at.invariant.0 c.next-line.new.states c.in-ok-line.ensures.states,
-      lines_next ts rs k c.loop-at.states c.loop-at.invariant.0 (string_bytes c.loop-at.text) c.as-str.result.now (string_bytes c.push-str.new.self) c.loop-at.invariant.1
-          c.in-ok-push-str.ensures.bytes (c.as-str.ensures.value ∙ c.in-ok-line.ensures.text),
+      states_next ts rs k c.loop-at.states c.loop-at.invariant.0 c.next_line.new.states c.in_ok-line.ensures.states,
+      lines_next ts rs k c.loop-at.states c.loop-at.invariant.0 (string_bytes c.loop-at.text) c.as_str.result.now (string_bytes c.push_str.new.self) c.loop-at.invariant.1
+          c.in_ok-push_str.ensures.bytes (c.as_str.ensures.value ∙ c.in_ok-line.ensures.text),
     )

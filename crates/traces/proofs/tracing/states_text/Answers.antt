@@ -7,8 +7,8 @@ pub loop-state-preserved : goal.loop-state-preserved
 loop-state-preserved c =
     let ss = c.args.states.now in
     let i = c.loop-state.state-index in
-    grown (string_bytes c.loop-state.text) c.as-str.result.now _ (string_bytes c.push-str.new.self) (states_text (drop (i + 1) ss)) (states_text (drop i ss)) (states_text ss)
-    c.in-ok-push-str.ensures.bytes (c.as-str.ensures.value ∙ c.in-ok-more.ensures) (states_more ss i c.loop-state-test.true) c.loop-state.invariant
+    grown (string_bytes c.loop-state.text) c.as_str.result.now _ (string_bytes c.push_str.new.self) (states_text (drop (i + 1) ss)) (states_text (drop i ss)) (states_text ss)
+    c.in_ok-push_str.ensures.bytes (c.as_str.ensures.value ∙ c.in_ok-more.ensures) (states_more ss i c.loop-state-test.true) c.loop-state.invariant
 
 pub returns : goal.returns
 returns c = at_end states_text refl c.args.states.now c.loop-state.state-index (string_bytes c.loop-state.text) (states_text c.args.states.now) c.loop-state-test.false c.loop-state.invariant

@@ -7,8 +7,8 @@ loop-place-preserved c =
     let rs = c.args.releases.now in
     let t = c.args.instant.0 in
     let p = c.loop-place.place in
-    elim c.if-is-due.branch [
-      | goal.then-is-due+in-ok-push w ↦
-          ap vec_items w.all-is ∙ w.in-ok-push.ensures.items ∙ ap (λ (l : List ℕ). l ++ p ∷ []) c.loop-place.invariant ∙ released_here rs t p w.if-is-due.ensures
-      | goal.else-is-due w ↦ ap vec_items w.all-is ∙ c.loop-place.invariant ∙ released_not rs t p w.if-is-due.ensures
+    elim c.if-is_due.branch [
+      | goal.then-is_due+in_ok-push w ↦
+          ap vec_items w.all-is ∙ w.in_ok-push.ensures.items ∙ ap (λ (l : List ℕ). l ++ p ∷ []) c.loop-place.invariant ∙ released_here rs t p w.if-is_due.ensures
+      | goal.else-is_due w ↦ ap vec_items w.all-is ∙ c.loop-place.invariant ∙ released_not rs t p w.if-is_due.ensures
     ]
