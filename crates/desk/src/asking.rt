@@ -82,7 +82,7 @@ fn admit_with<J: Judge, P: Preference>(
     task: Task,
     sheet: &mut [u32],
 ) -> Result<String, AllocError>
-    ensures { IfOk result (λ s. AdmittedWith meaning before rack.old task sheet.old (string_bytes s) rack.new) }
+    ensures { IfOk result (λ s. AdmittedWith J.meaning P.before rack.old task sheet.old (string_bytes s) rack.new) }
 {
     let answer = rack.admit(task, sheet);
     admit_text(heap, answer, sheet)
@@ -94,7 +94,7 @@ fn admit_on<J: Judge, P: Preference>(
     rack: &mut Rack<J, P>,
     asks: Admission,
 ) -> Result<String, AllocError>
-    ensures { IfOk result (λ s. Admitted meaning before rack.old asks (string_bytes s) rack.new) }
+    ensures { IfOk result (λ s. Admitted J.meaning P.before rack.old asks (string_bytes s) rack.new) }
 {
     let mut sheet = blank_sheet(heap, asks.length)?;
     admit_with(heap, rack, asks.task, sheet.as_mut_slice())
@@ -106,7 +106,7 @@ fn withdraw_on<J: Judge, P: Preference>(
     rack: &mut Rack<J, P>,
     number: u32,
 ) -> Result<String, AllocError>
-    ensures { IfOk result (λ s. Withdrawn meaning before rack.old number (string_bytes s) rack.new) }
+    ensures { IfOk result (λ s. Withdrawn J.meaning P.before rack.old number (string_bytes s) rack.new) }
 {
     let answer = rack.withdraw(number);
     withdraw_text(heap, answer)

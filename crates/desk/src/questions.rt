@@ -91,7 +91,7 @@ fn find_on<J: Judge, P: Preference>(
     rack: &Rack<J, P>,
     number: u32,
 ) -> Result<String, AllocError>
-    ensures { IfOk result (λ s. Found meaning before rack.now number (string_bytes s)) }
+    ensures { IfOk result (λ s. Found J.meaning P.before rack.now number (string_bytes s)) }
 {
     let answer = rack.find(number);
     find_text(heap, answer)
@@ -102,7 +102,7 @@ fn load_on<J: Judge, P: Preference>(
     rack: &Rack<J, P>,
     p: usize,
 ) -> Result<String, AllocError>
-    ensures { IfOk result (λ s. Loaded meaning before rack.now p (string_bytes s)) }
+    ensures { IfOk result (λ s. Loaded J.meaning P.before rack.now p (string_bytes s)) }
 {
     let answer = rack.load(p);
     load_text(heap, answer)
@@ -113,7 +113,7 @@ fn seats_on<J: Judge, P: Preference>(
     rack: &Rack<J, P>,
     p: usize,
 ) -> Result<String, AllocError>
-    ensures { IfOk result (λ s. Listed meaning before rack.now p (string_bytes s)) }
+    ensures { IfOk result (λ s. Listed J.meaning P.before rack.now p (string_bytes s)) }
 {
     let answer = rack.seats(p);
     seats_text(heap, answer)

@@ -19,7 +19,7 @@ fn try_admit<J: Judge, P: Preference>(
     index: u32,
     sheet: &mut [u32],
 ) -> Result<(usize, Ticks), PlayerFault>
-    ensures tried { TriedAdmission meaning before rack.old task index sheet.old result sheet.new rack.new }
+    ensures tried { TriedAdmission J.meaning P.before rack.old task index sheet.old result sheet.new rack.new }
     ensures small { Small (λ a. a.0) result }
 {
     let granted = mark_admission(index, rack.admit(task, sheet))?;
@@ -32,7 +32,7 @@ fn try_withdraw<J: Judge, P: Preference>(
     number: u32,
     index: u32,
 ) -> Result<(usize, Units, Ticks), PlayerFault>
-    ensures tried { TriedWithdrawal meaning before rack.old number index result rack.new }
+    ensures tried { TriedWithdrawal J.meaning P.before rack.old number index result rack.new }
     ensures small { Small (λ a. a.0) result }
 {
     let granted = mark_withdrawal(index, rack.withdraw(number))?;
@@ -47,7 +47,7 @@ pub fn play_record<J: Judge, P: Preference>(
     sheet: &mut [u32; 16],
     out: &mut [u8; 64],
 ) -> usize
-    ensures played { Plays meaning before rack.old (seen_as one.entry) index sheet.old out.old result rack.new sheet.new out.new }
+    ensures played { Plays J.meaning P.before rack.old (seen_as one.entry) index sheet.old out.old result rack.new sheet.new out.new }
     ensures inside { result ≤ 64 }
 {
     match one {

@@ -9,7 +9,7 @@ use Rattle.desk.proofs.files.read_answer.Goals as goal
 pub returns-in-Ok : goal.returns-in-Ok
 returns-in-Ok c =
     let input = c.args.input.now in
-    let small : (i : ℕ) → get_or input i 0 < 256 = λ i. omega (arith, c.type-inv.input i) in
+    let small : (i : ℕ) → get_or input i 0 < 256 = λ i. omega (arith, c.type_inv.input i) in
     let file = c.in-Ok.file in
     let e = (reads_what_stands input (file_seen file) (bytes_from input small)).0 c.in-Ok.ensures in
     let n : c.len.result ≡ length (file_seen file).records = omega (arith, c.len.ensures, file.records.ok, length-map (vec_items file.records) seen_as) in

@@ -3,8 +3,8 @@ use Rattle.desk.specs.Hex.{bytes_after}
 use Rattle.desk.proofs.Reading.{byte_more, byte_bad, one_left, none_left}
 use Rattle.desk.proofs.hex.bytes_from.Goals as goal
 
-pub returns-in-default : goal.returns-in-default
-returns-in-default c = sym (byte_bad (vec_items c.loop-i.all) c.args.text.now c.loop-i.i c.loop-i-test.true (sym c.in-default.ensures)) ∙ c.loop-i.invariant.1
+pub returns-in_default : goal.returns-in_default
+returns-in_default c = sym (byte_bad (vec_items c.loop-i.all) c.args.text.now c.loop-i.i c.loop-i-test.true (sym c.in_default.ensures)) ∙ c.loop-i.invariant.1
 
 pub loop-i-preserved : goal.loop-i-preserved
 loop-i-preserved c =
@@ -12,7 +12,7 @@ loop-i-preserved c =
     let i = c.loop-i.i in
     let done = vec_items c.loop-i.all in (
       omega arith,
-      ap (λ (l : List ℕ). bytes_after l (drop (i + 2) text)) c.in-ok-push.ensures.items ∙ sym (byte_more done text i c.loop-i-test.true c.in-Some.b (sym c.in-Some.ensures)) ∙ c.loop-i.invariant.1,
+      ap (λ (l : List ℕ). bytes_after l (drop (i + 2) text)) c.in_ok-push.ensures.items ∙ sym (byte_more done text i c.loop-i-test.true c.in-Some.b (sym c.in-Some.ensures)) ∙ c.loop-i.invariant.1,
     )
 
 pub returns-then-i-text : goal.returns-then-i-text

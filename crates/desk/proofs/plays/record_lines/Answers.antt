@@ -9,9 +9,9 @@ pub loop-i-preserved : goal.loop-i-preserved
 loop-i-preserved c =
     let rs = c.args.records.now in
     let i = c.loop-i.i in
-    let e : vec_items c.extend-from-slice.new.self ≡ vec_items c.loop-i.text ++ take (c.play-record-n.result - 0) c.play-record-n.new.out = search rules in
-    one_more c.args.rack.now (map seen_as rs) i c.loop-i.rack c.loop-i.sheet c.loop-i.out (vec_items c.loop-i.text) c.play-record-n.result _ c.play-record-n.new.rack c.play-record-n.new.sheet c.play-record-n.new.out _
-    c.loop-i.invariant c.play-record-n.ensures.played (get_or-map seen_as rs i _ (withdraws 0) c.loop-i-test.true) e
+    let e : vec_items c.extend_from_slice.new.self ≡ vec_items c.loop-i.text ++ take (c.play_record-n.result - 0) c.play_record-n.new.out = search rules in
+    one_more c.args.rack.now (map seen_as rs) i c.loop-i.rack c.loop-i.sheet c.loop-i.out (vec_items c.loop-i.text) c.play_record-n.result _ c.play_record-n.new.rack c.play_record-n.new.sheet c.play_record-n.new.out _
+    c.loop-i.invariant c.play_record-n.ensures.played (get_or-map seen_as rs i _ (withdraws 0) c.loop-i-test.true) e
 
 pub returns : goal.returns
 returns c =

@@ -6,5 +6,5 @@ pub returns : goal.returns
 returns c =
     let line = c.args.line.now in
     let text = c.args.text.now in
-    let h : vec_items c.extend-from-slice-3.new.self ≡ (line ++ codes " -> ") ++ text = search rules in
+    let h : vec_items c.extend_from_slice-3.new.self ≡ (line ++ codes " -> ") ++ text = search rules in
     h ∙ append_assoc line (codes " -> ") text

@@ -4,5 +4,5 @@ use Rattle.desk.proofs.replies.reply.Goals as goal
 
 pub returns : goal.returns
 returns c =
-    reply-made c.args.desk.now c.told.new.desk c.args.line.now c.in-Some.rest.now (vec_items c.in-ok-text.text) c.as-slice.result.now c.in-Some.word
-    c.in-Some.ensures c.in-ok-text.ensures c.as-slice.ensures.value c.answered.result c.answered.ensures
+    reply-made c.args.desk.now c.told.new.desk c.args.line.now c.in-Some.rest.now (vec_items c.in_ok-text.text) c.as_slice.result.now c.in-Some.word
+    c.in-Some.ensures c.in_ok-text.ensures c.as_slice.ensures.value c.answered.result c.answered.ensures
