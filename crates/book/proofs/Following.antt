@@ -1,10 +1,10 @@
 -- Of each call: lists that follow its rules are the book after it, and what is claimed of it holds.
-use Rattle.std.proofs.Common.{◌≡◌, ℕ, ◌<◌, true, List, [], length, get_or, set, Some, None, Ok, Err, Option, sym, refl, ap, ◌∙◌, subst, inl, inr, arith}
+use Rattle.std.proofs.Common.{◌≡◌, ℕ, true, List, [], get_or, set, Some, None, Ok, Err, Option, refl, ap, ◌∙◌, subst, inl, inr, arith}
 use Rattle.judges.specs.Laws.{Meaning}
 use Rattle.preferences.specs.Laws.{Relation}
 use Rattle.seating.specs.declared.seat.Seat.{Seat}
 use Rattle.seating.specs.Seats.{numbers, all_differ}
-use Rattle.book.specs.Book.{Book, Event, admits, withdraws, finds, loads, lists, after, Rules, Right, TurnedAwayExactly, PreferredTaker, OfCall}
+use Rattle.book.specs.Book.{Book, Event, admits, withdraws, finds, loads, lists, after, Rules, TurnedAwayExactly, PreferredTaker, OfCall}
 use Rattle.book.proofs.Entering.{joins_as_written}
 use Rattle.book.proofs.Leaving.{leaves_as_written}
 

@@ -1,10 +1,10 @@
 -- What holds at a moment, by lists that are kept well.
-use Rattle.std.proofs.Common.{◌≡◌, ℕ, ◌<◌, ◌≤◌, true, ◌↔◌, List, [], ◌∷◌, length, get_or, sym, refl, ap, ◌∙◌, arith}
+use Rattle.std.proofs.Common.{◌≡◌, ℕ, ◌<◌, true, ◌↔◌, List, ◌∷◌, length, get_or, arith}
 use Rattle.std.specs.List.Sorted.{IsPermutation}
 use Rattle.std.proofs.lemmas.List.Sorted.{IsPermutation-trans, IsPermutation-sym}
 use Rattle.tasks.specs.declared.task.Task.{Task}
-use Rattle.tasks.specs.Limits.{within_limits, all_within}
-use Rattle.tasks.specs.Priority.{by_priority, joined}
+use Rattle.tasks.specs.Limits.{within_limits}
+use Rattle.tasks.specs.Priority.{joined}
 use Rattle.tasks.specs.Demand.{Fits}
 use Rattle.machine.specs.Promises.{CanMiss}
 use Rattle.schedule.proofs.Enough.{fitting_list_is_safe}
@@ -15,7 +15,7 @@ use Rattle.seating.specs.Seats.{tasks_of, no_seat, all_keep_good, numbers, all_d
 use Rattle.seating.proofs.Keeping.{each_keeps}
 use Rattle.seating.proofs.Limiting.{within_joined}
 use Rattle.seating.proofs.Placing.{length-tasks, priority_joined}
-use Rattle.book.specs.Book.{Book, seats_on, tasks_on, KeptWell, FreeSeat, Fails, Passes, MissesInEachOrder, AtMoment}
+use Rattle.book.specs.Book.{Book, seats_on, tasks_on, KeptWell, Fails, Passes, MissesInEachOrder, AtMoment}
 
 pub kept_fits : (ss : List Seat) → all_keep_good ss ≡ true → Fits (tasks_of ss)
 kept_fits ss h k lt = ((get_or ss k no_seat).instant.0, each_keeps ss h k (omega (arith, lt, length-tasks ss)))

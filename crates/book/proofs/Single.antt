@@ -1,5 +1,5 @@
 -- Exactly one answer to each call is right by the book.
-use Rattle.std.proofs.Common.{◌≡◌, ℕ, ◌<◌, ◌≤◌, true, false, ◌⊎◌, List, [], length, get_or, Some, None, Ok, Err, Option, Result, sym, refl, ap, ◌∙◌, subst, inl, inr, ⊎_elim, arith}
+use Rattle.std.proofs.Common.{◌≡◌, ℕ, ◌<◌, ◌≤◌, false, ◌⊎◌, List, [], length, get_or, Some, None, Ok, Err, Option, Result, refl, ap, ◌∙◌, subst, inl, inr, arith}
 use Rattle.std.proofs.lemmas.Bool.{cases_lt}
 use Rattle.tasks.specs.declared.task.Task.{Task}
 use Rattle.tasks.specs.declared.units.Ticks.{Ticks}
@@ -13,13 +13,13 @@ use Rattle.seating.specs.declared.refusal.QuestionRefusal.{QuestionRefusal}
 use Rattle.seating.specs.declared.refusal.QuestionRefusal.TheVariants.{NoProcessor}
 use Rattle.seating.specs.Seats.{tasks_of, load_of, no_seat, seated}
 use Rattle.seating.specs.Withdrawal.{Withdraws, SitsAt}
-use Rattle.seating.specs.Questions.{Finds, FoundAt}
+use Rattle.seating.specs.Questions.{Finds}
 use Rattle.seating.proofs.Answering.{admits_some, withdraws_some}
 use Rattle.seating.proofs.Once.{admits_once}
 use Rattle.seating.proofs.WithdrawOnce.{withdraws_once}
 use Rattle.seating.proofs.Numbering.{is_seated_there, one_list, one_place}
 use Rattle.book.specs.Book.{Book, Event, admits, withdraws, finds, loads, lists, after, Rules, Right, AtMoment}
-use Rattle.book.specs.Answers.{One, OneRight, OneRightAnswer}
+use Rattle.book.specs.Answers.{One, OneRightAnswer}
 use Rattle.book.proofs.Following.{written}
 
 module _ (mean : Meaning) (judged : JudgeLaws mean) (bef : Relation) (preferred : PreferenceLaws bef) (b : Book) (now : AtMoment b) where

@@ -9,7 +9,7 @@ use Rattle.seating.specs.declared.seat.Seat.{Seat}
 use Rattle.seating.specs.declared.refusal.AdmitRefusal.{AdmitRefusal}
 use Rattle.seating.specs.declared.refusal.WithdrawRefusal.{WithdrawRefusal}
 use Rattle.seating.specs.declared.refusal.QuestionRefusal.{QuestionRefusal}
-use Rattle.book.specs.Book.{Book, Event, admits, withdraws, finds, loads, lists, Right, AtMoment}
+use Rattle.book.specs.Book.{Book, admits, withdraws, finds, loads, lists, Right, AtMoment}
 
 -- there is exactly one x of the kind P
 pub record One (X : Type 0) (P : X → Type 0) : Type 0 where

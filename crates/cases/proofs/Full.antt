@@ -1,9 +1,9 @@
 -- Below a task that takes every tick no instant is good.
-use Rattle.std.proofs.Common.{◌≡◌, ℕ, suc, ◌+◌, ◌*◌, ◌<◌, ◌≤◌, true, false, ◌&&◌, List, [], ◌∷◌, Some, None, refl, ap, ◌∙◌, one-mul, mul-one, arith}
+use Rattle.std.proofs.Common.{◌≡◌, ℕ, ◌≤◌, false, [], ◌∷◌, None, one-mul, mul-one, arith}
 use Rattle.std.proofs.lemmas.Bool.{and_right}
 use Rattle.tasks.specs.declared.task.Task.{Task}
 use Rattle.tasks.specs.Rounding.{up}
-use Rattle.tasks.specs.Demand.{demand, good}
+use Rattle.tasks.specs.Demand.{good}
 use Rattle.tasks.specs.Instants.{point, least}
 use Rattle.tasks.proofs.Roundings.{up_covers}
 use Rattle.tasks.proofs.Goods.{not_good}

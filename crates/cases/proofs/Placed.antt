@@ -1,5 +1,5 @@
 -- Where a newcomer goes.
-use Rattle.std.proofs.Common.{◌≡◌, ℕ, zero, suc, ◌<◌, true, List, [], length, get_or, refl, arith, lit≤}
+use Rattle.std.proofs.Common.{◌≡◌, ℕ, zero, suc, ◌<◌, true, [], get_or, refl, arith, lit≤}
 use Rattle.std.specs.List.{AllByRecursion}
 use Rattle.tasks.specs.Rounding.{up}
 use Rattle.tasks.specs.Priority.{joined}

@@ -1,5 +1,5 @@
 -- A whole file: what its bytes stand for, the answers that are right, and the lines.
-use Rattle.std.proofs.Common.{◌≡◌, ℕ, zero, suc, ◌<◌, ◌≤◌, true, false, List, [], ◌∷◌, length, get_or, Some, None, Ok, Err, sym, refl, inr, arith, lit≤}
+use Rattle.std.proofs.Common.{◌≡◌, ℕ, zero, suc, ◌<◌, ◌≤◌, true, [], ◌∷◌, get_or, Some, Ok, Err, refl, inr, arith, lit≤}
 use Rattle.std.specs.List.{AllByRecursion}
 use Rattle.std.specs.Fmt.{digits}
 use Rattle.std.proofs.lemmas.Bool.{both_ways, lt-ltb}
@@ -7,14 +7,12 @@ use Rattle.tasks.specs.declared.task.Task.{Task}
 use Rattle.tasks.specs.Rounding.{up}
 use Rattle.tasks.specs.Instants.{least}
 use Rattle.tasks.specs.Demand.{FitsAt, Fits}
-use Rattle.judges.specs.Laws.{asked}
 use Rattle.judges.specs.Meanings.{least_good_point}
 use Rattle.judges.specs.Meant.{points_lawful}
 use Rattle.preferences.specs.Fits.{first_fit}
 use Rattle.seating.specs.declared.refusal.AdmitRefusal.TheVariants.{NoTaker}
-use Rattle.seating.specs.declared.seat.Seat.{Seat}
-use Rattle.seating.specs.Seats.{Lists, no_seat, tasks_of}
-use Rattle.seating.specs.Admission.{WouldTake, as_seen, said, on, Entry, FirstUnfit}
+use Rattle.seating.specs.Seats.{Lists, no_seat}
+use Rattle.seating.specs.Admission.{WouldTake, as_seen, said, on, Entry}
 use Rattle.book.specs.Book.{Book, admits, withdraws, Right}
 use Rattle.playing.specs.Playing.{task_of}
 use Rattle.cases.specs.Cases.{Settled, whole, seat, blank_sheet, written_sheet}

@@ -7,7 +7,6 @@ use Rattle.tasks.specs.Share.{share_answer}
 use Rattle.tasks.specs.Instants.{point}
 use Rattle.judges.specs.Meanings.{least_good_point, least_good_instant}
 use Rattle.machine.specs.declared.state.Release.{Release}
-use Rattle.machine.specs.declared.state.Miss.{Miss}
 use Rattle.machine.specs.declared.state.Outcome.{Outcome}
 use Rattle.machine.specs.Machine.{outcome}
 use Rattle.machine.specs.Lawful.{lawful}

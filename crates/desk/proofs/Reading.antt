@@ -1,5 +1,5 @@
 -- How a line is read: its word, and bytes in hexadecimal.
-use Rattle.std.proofs.Common.{◌≡◌, ℕ, zero, suc, ◌+◌, ◌<◌, ◌≤◌, List, [], ◌∷◌, ◌++◌, length, get_or, take, drop, Some, None, sym, refl, ap, ◌∙◌, arith}
+use Rattle.std.proofs.Common.{◌≡◌, ℕ, ◌+◌, ◌<◌, ◌≤◌, List, [], ◌∷◌, ◌++◌, length, get_or, take, drop, Some, None, sym, refl, ap, ◌∙◌, arith}
 use Rattle.std.proofs.lemmas.List.{at_drop_more, at_drop_all, drop_more, length-drop, length-append, take_at, drop_at}
 use Rattle.script.specs.Fields.{Unspaced}
 use Rattle.script.specs.Calls.{word_length}
@@ -7,7 +7,7 @@ use Rattle.script.proofs.Wording.{length-unspaced, length-spaced}
 use Rattle.desk.specs.declared.words.Word.{Word}
 use Rattle.desk.specs.declared.words.Word.TheVariants.{Read, Play, Make, Admit, Withdraw, Find, Load, Seats}
 use Rattle.desk.specs.Names.{name_of}
-use Rattle.desk.specs.Hex.{digit_of, pair_of, bytes_after, bytes_of}
+use Rattle.desk.specs.Hex.{digit_of, pair_of, bytes_after}
 
 -- a word ends at the first space
 named_length : (w : Word) (rest : List ℕ) → word_length (name_of w ++ (32 ∷ rest)) ≡ length (name_of w)

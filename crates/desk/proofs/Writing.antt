@@ -1,5 +1,5 @@
 -- What a sheet holds, and its text entry by entry.
-use Rattle.std.proofs.Common.{◌≡◌, ℕ, zero, suc, ◌+◌, ◌-◌, ◌<◌, List, [], ◌∷◌, ◌++◌, length, get_or, take, drop, replicate, IfOk, Ok, Err, string_bytes, codes, decimal, Result, String, sym, refl, ap, ◌∙◌, subst, arith}
+use Rattle.std.proofs.Common.{◌≡◌, ℕ, zero, suc, ◌+◌, ◌-◌, ◌<◌, List, [], ◌++◌, length, get_or, take, drop, replicate, IfOk, Ok, Err, string_bytes, codes, decimal, Result, String, sym, refl, ap, ◌∙◌, subst, arith}
 use Rattle.std.proofs.lemmas.List.{at_drop_more, append_assoc}
 use Rattle.std.specs.declared.alloc.Global.{Global}
 use Rattle.judges.specs.declared.points.Points.{Points}

@@ -1,12 +1,12 @@
 -- What a file is read as, in words.
-use Rattle.std.specs.Prelude.{ℕ, List, [], ◌∷◌, ◌++◌, length, Some, None, Ok, Err, codes, decimal, Option, Result}
+use Rattle.std.specs.Prelude.{ℕ, List, [], ◌∷◌, ◌++◌, length, Ok, Err, codes, decimal, Result}
 use Rattle.preferences.specs.declared.policy.Policy.{Policy}
 use Rattle.preferences.specs.Policies.{letter_of}
 use Rattle.rackfile.specs.declared.fault.Layer.{Layer}
 use Rattle.rackfile.specs.declared.fault.Layer.TheVariants as layer
 use Rattle.rackfile.specs.declared.fault.FileFault.{FileFault}
 use Rattle.rackfile.specs.Faults.{layer_of, number_of, place_of}
-use Rattle.rackfile.specs.Files.{File, reading}
+use Rattle.rackfile.specs.Files.{File}
 
 -- `ok POLICY M COUNT`
 abbrev pub file_text : Policy → ℕ → ℕ → List ℕ

@@ -1,5 +1,5 @@
 -- `play`: the player's lines for a file.
-use Rattle.std.specs.Prelude.{◌≡◌, ℕ, zero, suc, List, [], ◌∷◌, ◌++◌, map, length, take, replicate, Some, None, Ok, Err, vec_items, codes, Option, Result, slice_index_or}
+use Rattle.std.specs.Prelude.{◌≡◌, ℕ, zero, suc, List, [], ◌++◌, map, length, take, replicate, Some, None, Ok, Err, vec_items, codes, Option, Result, slice_index_or}
 use Rattle.judges.specs.declared.points.Points.{Points}
 use Rattle.preferences.specs.declared.policy.Policy.{Policy}
 use Rattle.preferences.specs.Policies.{policy_before}

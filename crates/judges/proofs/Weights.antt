@@ -1,6 +1,6 @@
 -- Where the demand at t is not done in t, no instant before it is done is good.
-use Rattle.std.proofs.Common.{◌≡◌, ℕ, ◌+◌, ◌*◌, ◌^◌, ◌<◌, ◌≤◌, Bool, true, false, cond, ◌&&◌, ltb, leb, ◌⊎◌, List, Some, None, Option, sym, refl, ap, ◌∙◌, inl, inr, mul-one, arith}
-use Rattle.std.proofs.lemmas.Bool.{cond-true, cond_both, cases_lt, ltb-false, ltb-true}
+use Rattle.std.proofs.Common.{◌≡◌, ℕ, ◌^◌, ◌<◌, ◌≤◌, true, false, ◌&&◌, ltb, leb, List, Some, None, Option, refl, ap, ◌∙◌, inl, inr, mul-one, arith}
+use Rattle.std.proofs.lemmas.Bool.{cond-true, cond_both, cases_lt, ltb-false}
 use Rattle.tasks.specs.declared.task.Task.{Task}
 use Rattle.tasks.specs.declared.units.Ticks.{Ticks}
 use Rattle.tasks.specs.declared.units.Units.{Units}

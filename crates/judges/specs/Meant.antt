@@ -1,8 +1,6 @@
 -- Both meanings keep the laws of a judge.
-use Rattle.std.specs.Prelude.{◌≡◌, ℕ, suc, ◌+◌, ◌<◌, ◌≤◌, true, false, ◌&&◌, ◌⊎◌, List}
 use Rattle.std.proofs.Common.{inl, inr, arith}
 use Rattle.std.proofs.lemmas.Bool.{and_parts, and_from, cases_Bool, both_ways}
-use Rattle.tasks.specs.declared.task.Task.{Task}
 use Rattle.tasks.specs.Demand.{good}
 use Rattle.tasks.specs.Instants.{point}
 use Rattle.tasks.proofs.Goods.{good_parts, limits_exist}

@@ -7,7 +7,6 @@ use Rattle.tasks.specs.Units.{units_in, one_a_tick}
 use Rattle.machine.specs.declared.state.State.{State}
 use Rattle.machine.specs.declared.state.State.TheVariants.{Idle, Waiting}
 use Rattle.machine.specs.declared.state.Release.{Release}
-use Rattle.machine.specs.declared.state.Miss.{Miss}
 use Rattle.machine.specs.declared.state.Outcome.{Outcome}
 
 -- 1. If waiting tasks have their deadline now, the first of them in the order has missed. Places are counted on from `place`.

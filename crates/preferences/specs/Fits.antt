@@ -1,6 +1,5 @@
 -- The three preferences of bin packing.
 use Rattle.std.specs.Prelude.{true, false, cond, ltb, eqb}
-use Rattle.preferences.specs.declared.contender.Contender.{Contender}
 use Rattle.preferences.specs.Laws.{Relation}
 
 -- the smaller number

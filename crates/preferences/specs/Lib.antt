@@ -1,4 +1,4 @@
 pub mod Laws
 pub mod Fits
 pub mod Policies
-pub mod PolicyPreferenceLemmas
+pub mod FitLaws

@@ -2,7 +2,7 @@
 ghost use Rattle.std.specs.Prelude.{◌≡◌};
 ghost use Rattle.preferences.specs.Policies.{policy_before, letter_of, LettersDiffer};
 ghost use Rattle.preferences.specs.declared.policy.Policy.TheVariants.{First, Best, Worst};
-ghost use Rattle.preferences.specs.PolicyPreferenceLemmas.{first_laws, best_laws, worst_laws};
+ghost use Rattle.preferences.specs.FitLaws.{first_laws, best_laws, worst_laws};
 
 use super::contender::Contender;
 use super::fits::{BestFit, FirstFit, WorstFit};

@@ -1,13 +1,12 @@
 -- The best of one processor more.
-use Rattle.std.proofs.Common.{◌≡◌, ℕ, ◌+◌, ◌<◌, ◌≤◌, Bool, true, false, not, ◌≢◌, ◌⊎◌, List, [], length, get_or, set, Some, None, Option, sym, refl, ap, ◌∙◌, subst, inl, inr, ⊎_elim, arith, below_more}
+use Rattle.std.proofs.Common.{◌≡◌, ℕ, ◌+◌, ◌<◌, true, false, ◌≢◌, List, [], length, get_or, set, Some, None, Option, sym, refl, ◌∙◌, subst, inl, inr, ⊎_elim, arith, below_more}
 use Rattle.std.proofs.lemmas.List.{get_or-set_same, get_or-set_other}
 use Rattle.std.proofs.lemmas.Bool.{cases_eq, not_from_false}
 use Rattle.tasks.specs.declared.task.Task.{Task}
-use Rattle.tasks.specs.declared.units.Ticks.{Ticks}
 use Rattle.seating.specs.declared.seat.Seat.{Seat}
 use Rattle.judges.specs.Laws.{Meaning}
 use Rattle.preferences.specs.Laws.{Relation, PreferenceLaws}
-use Rattle.seating.specs.Seats.{Lists, tasks_of}
+use Rattle.seating.specs.Seats.{Lists}
 use Rattle.seating.specs.Admission.{as_seen}
 use Rattle.rack.specs.Trials.{Took, Willing, Declined, Best}
 use Rattle.rack.specs.declared.trial.Trial.{Trial}

@@ -1,11 +1,11 @@
 -- What the judging of a candidate says of the seats.
-use Rattle.std.proofs.Common.{◌≡◌, ℕ, ◌+◌, ◌-◌, ◌<◌, ◌≤◌, List, length, get_or, take, sym, refl, ap, ◌∙◌, subst, arith}
+use Rattle.std.proofs.Common.{◌≡◌, ℕ, ◌+◌, ◌<◌, List, length, take, subst, arith}
 use Rattle.tasks.specs.declared.task.Task.{Task}
 use Rattle.tasks.specs.declared.units.Ticks.{Ticks}
 use Rattle.seating.specs.declared.seat.Seat.{Seat}
 use Rattle.judges.specs.Laws.{Meaning}
 use Rattle.tasks.specs.Priority.{joined}
-use Rattle.seating.specs.Seats.{tasks_of, place_of}
+use Rattle.seating.specs.Seats.{tasks_of}
 use Rattle.seating.specs.Judging.{FirstNone}
 use Rattle.rack.specs.Trials.{CandidateOf, AllSaid, NoneAt, Took}
 use Rattle.rack.specs.declared.trial.Candidate.{Candidate}

@@ -1,5 +1,5 @@
 -- An admission, put together from what was chosen and how it joined.
-use Rattle.std.proofs.Common.{◌≡◌, ℕ, ◌+◌, ◌<◌, ◌≤◌, Bool, true, false, cond, not, eqb, ltb, ◌⊎◌, List, [], ◌∷◌, length, get_or, take, drop, set, Some, None, Ok, Err, Option, Result, sym, refl, ap, ◌∙◌, subst, inl, inr, ⊎_elim, arith}
+use Rattle.std.proofs.Common.{◌≡◌, ℕ, ◌<◌, ◌≤◌, Bool, true, false, cond, not, eqb, ltb, List, [], length, get_or, take, drop, set, Some, None, Ok, Err, Option, Result, sym, refl, ap, ◌∙◌, subst, inl, inr, arith}
 use Rattle.std.proofs.lemmas.List.{length-take-le, get_or_append_left, get_or-take, length-append, length-drop, drop_at}
 use Rattle.std.proofs.lemmas.Bool.{ltb-false, and_from}
 use Rattle.tasks.specs.declared.task.Task.{Task}
@@ -12,14 +12,12 @@ use Rattle.tasks.specs.Limits.{period_allowed, work_allowed, within_limits, all_
 use Rattle.tasks.specs.Priority.{joined}
 use Rattle.judges.specs.Laws.{JudgeLaws}
 use Rattle.seating.specs.declared.refusal.AdmitRefusal.{AdmitRefusal}
-use Rattle.seating.specs.declared.refusal.AdmitRefusal.TheVariants.{ShortSheet, NumberZero, BadPeriod, BadWork, AlreadySeated, AllFull, NoTaker}
-use Rattle.seating.specs.Refusals.{admitting, number_of}
-use Rattle.seating.specs.Seats.{Lists, tasks_of, no_ticks, no_seat, place_of, seated, all_full, all_keep_good, numbers, all_differ}
-use Rattle.seating.specs.Admission.{said, earlier, WouldTake, Entry, Joins, Granted, TurnedAway, Admits}
+use Rattle.seating.specs.Seats.{Lists, tasks_of, no_ticks, place_of, seated, all_full, all_keep_good, numbers, all_differ}
+use Rattle.seating.specs.Admission.{earlier, WouldTake, Entry, Joins, Granted, TurnedAway, Admits}
 use Rattle.seating.specs.Judging.{DecidesFit}
 use Rattle.seating.proofs.Exactly.{takes_exactly}
 use Rattle.seating.proofs.Numbering.{differ_joined}
-use Rattle.seating.proofs.Placing.{length-tasks, place_le, take-joined, joined_here}
+use Rattle.seating.proofs.Placing.{length-tasks, take-joined, joined_here}
 use Rattle.rack.specs.declared.table.Table.{Table}
 use Rattle.rack.specs.declared.trial.Trial.{Trial}
 use Rattle.rack.specs.Taken.{all_lists, first_lists}

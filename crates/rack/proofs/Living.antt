@@ -1,8 +1,7 @@
 -- The claim over every run of a rack.
-use Rattle.std.proofs.Common.{◌≡◌, ℕ, ◌<◌, true, List, [], ◌∷◌, length, replicate, sym, refl, ap, ◌∙◌, subst, arith}
+use Rattle.std.proofs.Common.{◌≡◌, ℕ, List, [], ◌∷◌, replicate, refl, ap, ◌∙◌, subst, arith}
 use Rattle.judges.specs.Laws.{Meaning}
 use Rattle.preferences.specs.Laws.{Relation}
-use Rattle.seating.specs.Seats.{Lists}
 use Rattle.book.specs.Book.{Book, Event, admits, withdraws, finds, loads, lists, after, Rules, AtMoment, ClaimFrom, MainClaim}
 use Rattle.book.proofs.Moments.{at_moment}
 use Rattle.book.proofs.Following.{written, of_call}

@@ -1,14 +1,13 @@
 -- A seat joins, and those below it are renewed one after the other.
-use Rattle.std.proofs.Common.{◌≡◌, ℕ, suc, ◌+◌, ◌<◌, ◌≤◌, ◌≢◌, List, [], ◌∷◌, ◌++◌, map, length, get_or, take, drop, set, sym, refl, ap, ◌∙◌, subst, ⊎_elim, arith, below_more}
+use Rattle.std.proofs.Common.{◌≡◌, ℕ, ◌+◌, ◌<◌, ◌≤◌, ◌≢◌, List, ◌∷◌, ◌++◌, map, length, get_or, take, drop, set, sym, ap, ◌∙◌, subst, ⊎_elim, arith, below_more}
 use Rattle.std.specs.List.{insert}
-use Rattle.std.proofs.lemmas.List.{length-set, get_or-set_same, get_or-set_other, take-set-le, get_or-take, take-take, take_at, length-take-le, length-map, map-set, get_or-map, set-get_or, map-append, take-map, drop-map}
+use Rattle.std.proofs.lemmas.List.{get_or-set_same, get_or-set_other, take-set-le, get_or-take, take-take, take_at, length-take-le, map-set, get_or-map, set-get_or, map-append, take-map, drop-map}
 use Rattle.std.proofs.lemmas.List.Edits.{get_or-insert_at}
 use Rattle.std.proofs.lemmas.Bool.{cases_eq}
 use Rattle.tasks.specs.declared.task.Task.{Task}
 use Rattle.tasks.specs.declared.units.Ticks.{Ticks}
 use Rattle.seating.specs.declared.seat.Seat.{Seat}
 use Rattle.tasks.specs.Demand.{no_task}
-use Rattle.tasks.specs.Priority.{joined}
 use Rattle.seating.specs.Seats.{tasks_of, no_ticks, no_seat, place_of}
 use Rattle.seating.proofs.Placing.{length-tasks, joined_at_place}
 use Rattle.rack.specs.Taken.{renewed, taken_of}

@@ -1,5 +1,5 @@
 -- The fields at the front of a slice.
-use Rattle.std.proofs.Common.{◌≡◌, ℕ, suc, ◌+◌, ◌-◌, ◌*◌, ◌<◌, ◌≤◌, List, [], ◌∷◌, length, get_or, take, drop, Some, None, sym, refl, ap, ◌∙◌, arith}
+use Rattle.std.proofs.Common.{◌≡◌, ℕ, suc, ◌+◌, ◌-◌, ◌*◌, ◌≤◌, List, [], ◌∷◌, length, get_or, take, drop, Some, sym, ap, arith}
 use Rattle.std.proofs.lemmas.List.{take_all}
 use Rattle.rackfile.specs.Reading.{take_byte, take_half, take_word}
 

@@ -1,12 +1,12 @@
 -- A header without a fault is the header's bytes, and the other way round.
-use Rattle.std.proofs.Common.{◌≡◌, ℕ, zero, suc, ◌+◌, ◌-◌, ◌*◌, ◌/◌, ◌%◌, ◌^◌, ◌<◌, ◌≤◌, Bool, true, false, cond, not, ◌&&◌, eqb, ltb, leb, ◌⊎◌, List, [], ◌∷◌, ◌++◌, length, get_or, drop, is_some, Some, None, Option, sym, refl, ap, ◌∙◌, subst, inl, inr, arith}
+use Rattle.std.proofs.Common.{◌≡◌, ℕ, ◌+◌, ◌*◌, ◌/◌, ◌%◌, ◌^◌, ◌<◌, ◌≤◌, true, false, not, ◌&&◌, eqb, ltb, List, [], ◌∷◌, ◌++◌, length, get_or, drop, is_some, Some, None, sym, refl, ap, ◌∙◌, inl, inr, arith}
 use Rattle.std.proofs.lemmas.List.Elements.{All-drop}
 use Rattle.std.proofs.lemmas.Bool.{and_parts, cond-false, ltb-false, le-ltb, eqb-true, not-false, not_from_true, cases_Bool}
 use Rattle.preferences.specs.declared.policy.Policy.{Policy}
 use Rattle.preferences.specs.declared.policy.Policy.TheVariants.{First, Best, Worst}
 use Rattle.preferences.specs.Policies.{letter_of}
 use Rattle.rackfile.specs.Files.{is_mark, is_version, policy_named, processors_allowed, header_fault, count_in}
-use Rattle.rackfile.specs.Format.{half, header_bytes}
+use Rattle.rackfile.specs.Format.{header_bytes}
 use Rattle.rackfile.specs.Exact.{AreBytes}
 use Rattle.rackfile.proofs.Undoing.{cond-none}
 

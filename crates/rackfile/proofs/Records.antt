@@ -1,15 +1,15 @@
 -- A record is read from the front exactly where its bytes stand there.
-use Rattle.std.proofs.Common.{◌≡◌, ℕ, zero, suc, ◌+◌, ◌-◌, ◌*◌, ◌/◌, ◌%◌, ◌^◌, ◌<◌, ◌≤◌, Bool, true, false, cond, ◌&&◌, eqb, ltb, leb, ◌⊎◌, List, [], ◌∷◌, ◌++◌, length, take, drop, Some, None, Ok, Err, Option, Result, sym, refl, ap, ◌∙◌, subst, inl, inr, arith}
-use Rattle.std.proofs.lemmas.List.{append_assoc, length-append, take_at, drop_at}
+use Rattle.std.proofs.Common.{◌≡◌, ℕ, suc, ◌+◌, ◌-◌, ◌*◌, ◌/◌, ◌%◌, ◌^◌, ◌<◌, true, cond, eqb, ltb, leb, List, ◌∷◌, ◌++◌, length, take, drop, Some, None, Ok, Err, Result, sym, refl, ap, ◌∙◌, subst, inl, inr, arith}
+use Rattle.std.proofs.lemmas.List.{length-append, take_at, drop_at}
 use Rattle.std.proofs.lemmas.List.Sums.{prefix_len-le-length}
-use Rattle.std.proofs.lemmas.Bool.{and_parts, and_from, cond-true, cond-false, leb-true, le-leb, ltb-true, ltb-false, lt-ltb, le-ltb, eqb-true, eq-eqb, ne_eqb, cases_Bool}
+use Rattle.std.proofs.lemmas.Bool.{and_parts, and_from, cond-true, cond-false, le-leb, ltb-true, ltb-false, lt-ltb, le-ltb, eqb-true, eq-eqb, cases_Bool}
 use Rattle.rackfile.specs.declared.fault.RecordFault.{RecordFault}
 use Rattle.rackfile.specs.declared.fault.RecordFault.TheVariants.{Bytes, Tag, Label}
 use Rattle.rackfile.specs.Reading.{place_in, field, take_byte, take_word, take_part}
 use Rattle.rackfile.specs.Records.{Seen, admits, withdraws, printable, first_bad, length_allowed, then, next, read_text, read_label, read_admission, read_withdrawal, read_record}
 use Rattle.rackfile.specs.Format.{word, record_bytes, record_allowed, all_placed}
 use Rattle.rackfile.specs.Exact.{AreBytes}
-use Rattle.rackfile.proofs.Undoing.{Went, then_ok, next_ok, field_ok, cond-right, cond-wrong, byte_back, WordBack, word_back, PartBack, part_back}
+use Rattle.rackfile.proofs.Undoing.{then_ok, next_ok, field_ok, cond-right, cond-wrong, byte_back, word_back, part_back}
 
 -- what was read of a label stood there
 pub record LabelBack (whole : ℕ) (s l : List ℕ) (place : ℕ) (r : List ℕ) : Type 0 where

@@ -1,18 +1,18 @@
 -- Bytes are read as a file exactly when they stand for it.
-use Rattle.std.proofs.Common.{◌≡◌, ℕ, zero, suc, ◌+◌, ◌^◌, ◌<◌, ◌≤◌, Bool, true, false, cond, ◌&&◌, eqb, ltb, ◌↔◌, List, [], ◌∷◌, ◌++◌, length, get_or, drop, Some, None, Ok, Err, Option, Result, sym, refl, ap, ◌∙◌, subst, arith}
+use Rattle.std.proofs.Common.{◌≡◌, ℕ, zero, suc, ◌+◌, ◌<◌, ◌≤◌, true, eqb, List, [], ◌∷◌, ◌++◌, length, get_or, drop, Some, None, Ok, Err, Option, Result, sym, refl, ap, ◌∙◌, subst, arith}
 use Rattle.std.proofs.lemmas.List.{append_assoc, append-nil, length-append, length-drop, nil_from_length}
 use Rattle.std.proofs.lemmas.List.Elements.{All-from_get_or}
-use Rattle.std.proofs.lemmas.Bool.{and_parts, and_from, cond-true, cond-false, ltb-false, le-ltb, eqb-true}
+use Rattle.std.proofs.lemmas.Bool.{and_parts, and_from, cond-false, ltb-false, le-ltb, eqb-true}
 use Rattle.preferences.specs.declared.policy.Policy.{Policy}
 use Rattle.rackfile.specs.declared.fault.RecordFault.{RecordFault}
 use Rattle.rackfile.specs.declared.fault.FileFault.{FileFault}
 use Rattle.rackfile.specs.Records.{Seen, admits, withdraws, next, read_record}
 use Rattle.rackfile.specs.Files.{File, policy_named, header_fault, count_in, read_records, too_long, with_records, with_header, reading}
-use Rattle.rackfile.specs.Format.{header_bytes, record_bytes, records_bytes, file_bytes, record_allowed, all_allowed, all_placed, Stands}
+use Rattle.rackfile.specs.Format.{header_bytes, record_bytes, records_bytes, record_allowed, all_allowed, all_placed, Stands}
 use Rattle.rackfile.specs.Exact.{AreBytes, ReadsWhatStands, OneFile, NotBoth}
 use Rattle.rackfile.proofs.Undoing.{Went, next_ok, cond-right, cond-wrong}
-use Rattle.rackfile.proofs.Records.{RecordBack, record_back, record_read}
-use Rattle.rackfile.proofs.Headers.{HeaderBack, header_back, header_read, count_read, named}
+use Rattle.rackfile.proofs.Records.{record_back, record_read}
+use Rattle.rackfile.proofs.Headers.{header_back, header_read, count_read, named}
 
 pub record RecordsBack (at n : ℕ) (s : List ℕ) (vs : List Seen) (r : List ℕ) : Type 0 where
   pub bytes : s ≡ records_bytes vs ++ r

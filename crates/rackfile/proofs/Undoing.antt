@@ -1,12 +1,11 @@
 -- From what was read back to the bytes.
-use Rattle.std.proofs.Common.{◌≡◌, ℕ, zero, suc, ◌+◌, ◌-◌, ◌*◌, ◌/◌, ◌%◌, ◌^◌, ◌<◌, ◌≤◌, Bool, true, false, cond, ◌&&◌, leb, List, [], ◌∷◌, ◌++◌, length, take, drop, Some, None, Ok, Err, Option, Result, sym, refl, ap, ◌∙◌, subst, arith}
+use Rattle.std.proofs.Common.{◌≡◌, ℕ, ◌+◌, ◌*◌, ◌/◌, ◌%◌, ◌^◌, ◌<◌, Bool, true, false, cond, leb, List, [], ◌∷◌, ◌++◌, length, take, drop, Some, None, Ok, Err, Option, Result, sym, refl, ap, ◌∙◌, subst, arith}
 use Rattle.std.proofs.lemmas.List.Elements.{All-drop, All-tail}
 use Rattle.std.proofs.lemmas.List.{take-append-drop, length-take-le}
 use Rattle.std.proofs.lemmas.Bool.{leb-true}
-use Rattle.rackfile.specs.declared.fault.BytesFault.{BytesFault}
 use Rattle.rackfile.specs.Reading.{field, take_byte, take_word, take_part}
 use Rattle.rackfile.specs.Records.{then, next}
-use Rattle.rackfile.specs.Format.{half, word}
+use Rattle.rackfile.specs.Format.{word}
 use Rattle.rackfile.specs.Exact.{AreBytes}
 
 -- a value that was read on went through

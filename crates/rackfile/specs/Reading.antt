@@ -1,5 +1,5 @@
 -- Reading from the front: a field must be whole before its content is judged, and the first thing wrong decides.
-use Rattle.std.specs.Prelude.{◌≡◌, ℕ, zero, suc, ◌+◌, ◌-◌, ◌*◌, Bool, true, false, cond, not, ◌&&◌, List, [], ◌∷◌, length, take, drop, Some, None, Ok, Err, Option, Result, nat_le}
+use Rattle.std.specs.Prelude.{◌≡◌, ℕ, ◌+◌, ◌-◌, ◌*◌, cond, List, [], ◌∷◌, length, take, drop, Some, None, Ok, Err, Option, Result, nat_le}
 use Rattle.std.specs.Borrow.{Bor}
 use Rattle.rackfile.specs.declared.fault.BytesFault.{BytesFault}
 use Rattle.rackfile.specs.declared.fault.BytesFault.TheVariants.{Cut}

@@ -1,11 +1,8 @@
 -- One turn of each loop that reads.
-use Rattle.std.proofs.Common.{◌≡◌, ℕ, zero, suc, ◌+◌, ◌<◌, ◌≤◌, List, [], ◌∷◌, ◌++◌, length, get_or, drop, Some, None, Option, sym, refl, ap, ◌∙◌, arith}
-use Rattle.std.proofs.lemmas.List.{at_drop_more, at_drop_all, drop_more, append_assoc, length-drop}
-use Rattle.tasks.specs.declared.task.Task.{Task}
-use Rattle.machine.specs.declared.state.Release.{Release}
-use Rattle.script.specs.declared.fields.Step.{Step}
+use Rattle.std.proofs.Common.{◌≡◌, ℕ, ◌+◌, ◌<◌, ◌≤◌, List, [], ◌∷◌, ◌++◌, length, get_or, drop, Some, None, Option, refl, ap, ◌∙◌, arith}
+use Rattle.std.proofs.lemmas.List.{at_drop_more, at_drop_all, drop_more, length-drop}
 use Rattle.script.specs.declared.fields.Step.TheVariants.{Digit, Gap, Bad}
-use Rattle.script.specs.Fields.{step_of, numbers_from, numbers_of}
+use Rattle.script.specs.Fields.{step_of, numbers_from}
 use Rattle.script.specs.Calls.{plain_task, tasks_of, release_of, releases_of}
 
 module _ (done : List ℕ) (so_far : Option ℕ) (text : List ℕ) (i : ℕ) (lt : i < length text) where

@@ -1,5 +1,5 @@
 -- The calls of a script, and how they stand in a line.
-use Rattle.std.specs.Prelude.{ℕ, suc, ◌+◌, ◌-◌, Bool, true, false, cond, not, ◌&&◌, List, [], ◌∷◌, length, take, drop, Some, None, vec_items, Option, ◌==◌, nat_le, nat_lt, slice_index}
+use Rattle.std.specs.Prelude.{ℕ, suc, ◌+◌, ◌-◌, Bool, cond, not, ◌&&◌, List, [], ◌∷◌, length, take, drop, Some, None, vec_items, Option, ◌==◌, nat_le, nat_lt, slice_index}
 use Rattle.std.specs.Option.{option_map}
 use Rattle.std.specs.List.{prefix_len}
 use Rattle.tasks.specs.declared.task.Task.{Task}
@@ -61,11 +61,11 @@ releases_of (place ∷ (instant ∷ rest)) = release_of place instant ∷ releas
 abbrev pub holds : ℕ → List ℕ → Bool
 holds count numbers = length numbers == count + count
 
--- where the count of the releases stands in `H N C1 T1 .. CN TN K P1 I1 .. ParamKind IK`: behind two numbers and N pairs
+-- where the count of the releases stands in `H N C1 T1 .. CN TN K P1 I1 .. PK IK`: behind two numbers and N pairs
 abbrev pub count_at : List ℕ → ℕ
 count_at ns = 2 + (slice_index ns 1 + slice_index ns 1)
 
--- `H N C1 T1 .. CN TN K P1 I1 .. ParamKind IK`: a horizon, N tasks and K releases
+-- `H N C1 T1 .. CN TN K P1 I1 .. PK IK`: a horizon, N tasks and K releases
 abbrev pub run_of : List ℕ → Option SeenRun
 run_of ns =
     cond (nat_lt (count_at ns) (length ns) && holds (slice_index ns (count_at ns)) (drop (count_at ns + 1) ns))

@@ -1,8 +1,7 @@
 -- The lines that are written back.
-use Rattle.std.specs.Prelude.{ℕ, Bool, cond, ◌||◌, List, [], ◌∷◌, ◌++◌, length, Some, None, codes, decimal, Option, ◌==◌, slice_index}
+use Rattle.std.specs.Prelude.{ℕ, Bool, cond, ◌||◌, List, [], ◌++◌, length, Some, None, codes, decimal, Option, ◌==◌, slice_index}
 use Rattle.std.specs.Option.{option_map}
 use Rattle.machine.specs.declared.state.Miss.{Miss}
-use Rattle.machine.specs.declared.state.Outcome.{Outcome}
 use Rattle.traces.specs.Texts.{number_text}
 use Rattle.traces.specs.Traces.{trace_text}
 use Rattle.script.specs.declared.answers.Answer.{Answer}

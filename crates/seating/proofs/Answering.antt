@@ -1,11 +1,10 @@
 -- Every call has an answer.
-use Rattle.std.proofs.Common.{◌≡◌, ℕ, zero, suc, ◌+◌, ◌-◌, ◌<◌, ◌≤◌, Bool, true, false, cond, not, ◌||◌, eqb, ltb, ◌⊎◌, List, [], ◌∷◌, ◌++◌, map, length, get_or, take, drop, set, Some, None, Ok, Err, Option, Result, sym, refl, ap, ◌∙◌, subst, inl, inr, ⊎_elim, arith, drop-cons}
+use Rattle.std.proofs.Common.{◌≡◌, ℕ, zero, suc, ◌+◌, ◌-◌, ◌<◌, ◌≤◌, Bool, true, false, cond, not, ◌||◌, eqb, ltb, ◌⊎◌, List, [], ◌∷◌, ◌++◌, length, get_or, take, drop, set, Some, None, Ok, Err, Option, Result, sym, refl, ap, ◌∙◌, subst, inl, inr, ⊎_elim, arith, drop-cons}
 use Rattle.std.specs.List.{remove}
 use Rattle.std.proofs.lemmas.List.{take-append-drop, drop_all, drop_at, take_at, take-map, map-append, length-take-le, length-append, length-drop, get_or_append_left, get_or-append_right, get_or-set_same}
 use Rattle.std.proofs.lemmas.Bool.{cases_lt, cases_eq, cases_Bool, eqb-true, ltb-false, and_from, not_from_false}
 use Rattle.tasks.specs.declared.task.Task.{Task}
 use Rattle.tasks.specs.declared.units.Ticks.{Ticks}
-use Rattle.tasks.specs.declared.units.Units.{Units}
 use Rattle.tasks.specs.Limits.{period_allowed, work_allowed, within_limits}
 use Rattle.tasks.specs.Priority.{joined}
 use Rattle.tasks.specs.Demand.{no_task}
@@ -14,13 +13,12 @@ use Rattle.preferences.specs.Laws.{Relation, PreferenceLaws}
 use Rattle.seating.specs.declared.seat.Seat.{Seat}
 use Rattle.seating.specs.declared.refusal.AdmitRefusal.{AdmitRefusal}
 use Rattle.seating.specs.declared.refusal.AdmitRefusal.TheVariants.{ShortSheet, NumberZero, BadPeriod, BadWork, AlreadySeated, AllFull, NoTaker}
-use Rattle.seating.specs.declared.refusal.WithdrawRefusal.{WithdrawRefusal}
 use Rattle.seating.specs.declared.refusal.WithdrawRefusal.TheVariants.{NotSeated}
 use Rattle.seating.specs.Refusals.{admitting, number_of}
 use Rattle.seating.specs.Seats.{Lists, tasks_of, no_seat, place_of, holds, seated, all_full, Kept}
-use Rattle.seating.specs.Admission.{earlier, said, on, as_seen, WouldTake, Entry, Joins, Preferred, Admits, AdmitsSome}
+use Rattle.seating.specs.Admission.{earlier, said, on, as_seen, WouldTake, Entry, Joins, Admits, AdmitsSome}
 use Rattle.seating.specs.Judging.{Given, AllGiven, FirstNone}
-use Rattle.seating.specs.Withdrawal.{SitsAt, Withdraws, WithdrawsSome}
+use Rattle.seating.specs.Withdrawal.{SitsAt, WithdrawsSome}
 use Rattle.seating.proofs.Exactly.{takes_exactly, some_or_none}
 use Rattle.seating.proofs.Placing.{length-tasks, length-joined, place_le, take-joined, joined_here}
 

@@ -1,8 +1,8 @@
 -- A newcomer in its place.
-use Rattle.std.proofs.Common.{◌≡◌, ℕ, zero, suc, ◌+◌, ◌<◌, ◌≤◌, Bool, true, false, cond, ◌&&◌, List, [], ◌∷◌, ◌++◌, map, length, get_or, take, drop, sym, refl, ap, ◌∙◌, arith}
+use Rattle.std.proofs.Common.{◌≡◌, ℕ, suc, ◌+◌, ◌<◌, ◌≤◌, Bool, true, false, cond, ◌&&◌, List, [], ◌∷◌, length, get_or, take, drop, refl, ap, ◌∙◌, arith}
 use Rattle.std.specs.List.{insert}
 use Rattle.std.proofs.lemmas.Bool.{cond_both, and_from, and_parts, le-leb, leb-false}
-use Rattle.std.proofs.lemmas.List.{length-take-le, take-append-le, take-take, take_at, length-map}
+use Rattle.std.proofs.lemmas.List.{length-take-le, take-append-le, take-take, length-map}
 use Rattle.std.proofs.lemmas.List.Edits.{length-insert, get_or-insert_below, get_or-insert_at}
 use Rattle.tasks.specs.declared.task.Task.{Task}
 use Rattle.tasks.specs.Priority.{stands_above, by_priority, joined}

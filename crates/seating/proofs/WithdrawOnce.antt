@@ -1,5 +1,5 @@
 -- The relation of a withdrawal allows one answer and table.
-use Rattle.std.proofs.Common.{◌≡◌, ℕ, true, false, List, [], get_or, set, Ok, Err, Result, sym, refl, ap, ◌∙◌, subst}
+use Rattle.std.proofs.Common.{◌≡◌, ℕ, true, [], get_or, set, Ok, Err, Result, sym, refl, ap, ◌∙◌, subst}
 use Rattle.std.specs.List.{remove}
 use Rattle.tasks.specs.declared.units.Ticks.{Ticks}
 use Rattle.tasks.specs.declared.units.Units.{Units}

@@ -1,5 +1,5 @@
 -- What a withdrawal does to the lists of seats, and what it answers.
-use Rattle.std.specs.Prelude.{◌≡◌, ℕ, ◌<◌, true, false, List, [], length, get_or, Ok, Err, Result, slice_index_or, slice_set}
+use Rattle.std.specs.Prelude.{◌≡◌, ℕ, ◌<◌, true, false, [], length, get_or, Ok, Err, Result, slice_index_or, slice_set}
 use Rattle.std.specs.List.{remove}
 use Rattle.tasks.specs.declared.units.Ticks.{Ticks}
 use Rattle.tasks.specs.declared.units.Units.{Units}

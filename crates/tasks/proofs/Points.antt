@@ -1,15 +1,15 @@
 -- Scheduling points suffice: where a task has a good instant, one of its scheduling points is good.
-use Rattle.std.proofs.Common.{◌≡◌, ℕ, ◌+◌, ◌*◌, ◌%◌, ◌<◌, ◌≤◌, Bool, true, false, ◌&&◌, ◌||◌, eqb, leb, ◌⊎◌, List, [], ◌∷◌, sym, refl, subst, inl, inr, one-mul, arith}
+use Rattle.std.proofs.Common.{◌≡◌, ℕ, ◌*◌, ◌%◌, ◌≤◌, true, false, ◌&&◌, eqb, leb, List, [], ◌∷◌, inl, inr, one-mul, arith}
 use native.Mathlib.Nat.{mul-mod_left}
 use Rattle.std.specs.List.{AllByRecursion}
 use Rattle.std.proofs.lemmas.Nat.{mul-le}
 use Rattle.std.proofs.lemmas.Bool.{and_parts, and_from, or_cases, or_left, or_right, leb-true, le-leb, eq-eqb, cases_Bool, cases_lt}
 use Rattle.tasks.specs.declared.task.Task.{Task}
 use Rattle.tasks.specs.Rounding.{up}
-use Rattle.tasks.specs.Demand.{work_before, demand, good, periods_exist}
+use Rattle.tasks.specs.Demand.{work_before, good, periods_exist}
 use Rattle.tasks.specs.Instants.{multiple_of_one, point}
 use Rattle.tasks.proofs.Roundings.{up_covers, up_least, up_one}
-use Rattle.tasks.proofs.Goods.{Good, good_parts, good_from}
+use Rattle.tasks.proofs.Goods.{good_parts, good_from}
 
 -- the parts of a scheduling point
 pub record PointAt (x : Task) (above : List Task) (t : ℕ) : Type 0 where

@@ -1,18 +1,17 @@
 -- One turn of each loop that looks at an instant or writes its line.
-use Rattle.std.proofs.Common.{◌≡◌, ℕ, zero, suc, ◌+◌, ◌<◌, ◌≤◌, Bool, true, false, cond, ◌&&◌, ◌||◌, eqb, List, [], ◌∷◌, ◌++◌, length, get_or, take, drop, replicate, Some, None, codes, decimal, Option, sym, refl, ap, ◌∙◌, subst, add-one, arith}
+use Rattle.std.proofs.Common.{◌≡◌, ℕ, suc, ◌+◌, ◌<◌, ◌≤◌, Bool, true, false, cond, ◌&&◌, ◌||◌, eqb, List, [], ◌∷◌, ◌++◌, length, get_or, take, drop, replicate, Some, None, codes, decimal, Option, sym, refl, ap, ◌∙◌, add-one, arith}
 use Rattle.std.proofs.lemmas.List.{at_drop_more, at_drop_all, drop_more, append_assoc, append-nil, take-replicate}
 use Rattle.std.proofs.lemmas.Bool.{leb-true}
 use Rattle.tasks.specs.declared.task.Task.{Task}
 use Rattle.tasks.specs.Demand.{no_task}
 use Rattle.machine.specs.declared.state.State.{State}
-use Rattle.machine.specs.declared.state.State.TheVariants.{Idle, Waiting}
+use Rattle.machine.specs.declared.state.State.TheVariants.{Idle}
 use Rattle.machine.specs.declared.state.Release.{Release}
 use Rattle.machine.specs.declared.state.Miss.{Miss}
 use Rattle.machine.specs.declared.state.Outcome.{Outcome}
-use Rattle.machine.specs.Machine.{first_missed, due, with_releases, served, outcome}
+use Rattle.machine.specs.Machine.{due, with_releases, served, outcome}
 use Rattle.machine.specs.Traces.{states_at}
 use Rattle.machine.specs.Laws.{FirstMiss, end_of}
-use Rattle.machine.specs.Lawful.{lawful}
 use Rattle.machine.specs.Refusals.{tasks_allowed, horizon_allowed, releases_allowed, first_cause}
 use Rattle.machine.proofs.Running.{allowed_tasks}
 use Rattle.machine.proofs.Separated.{near_fits}

@@ -1,5 +1,5 @@
 -- The first waiting task has the turn.
-use Rattle.std.proofs.Common.{◌≡◌, ℕ, zero, suc, ◌+◌, List, [], ◌∷◌, Some, None, Option, sym, refl, ap, ◌∙◌, subst, arith}
+use Rattle.std.proofs.Common.{◌≡◌, ℕ, zero, suc, ◌+◌, List, [], ◌∷◌, Some, None, Option, refl, subst, arith}
 use Rattle.machine.specs.declared.state.State.{State}
 use Rattle.machine.specs.declared.state.State.TheVariants.{Idle, Waiting}
 use Rattle.machine.specs.Laws.{turn_of}

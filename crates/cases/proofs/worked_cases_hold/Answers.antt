@@ -1,4 +1,4 @@
-use Rattle.std.proofs.Common.{◌≡◌, ◌++◌, refl, lit≤}
+use Rattle.std.proofs.Common.{◌++◌, refl, lit≤}
 use Rattle.std.specs.List.{AllByRecursion}
 use Rattle.std.proofs.lemmas.List.Elements.{All-append, All-from_recursion}
 use Rattle.tasks.specs.Rounding.{up}
@@ -19,5 +19,5 @@ by_lemma = ((none_point (task 1 1000000) (lit≤ tt), none_least (task 1 1000000
 pub returns : goal.returns
 returns c =
     All-append Settled computed (long ++ (places ++ whole)) (All-from_recursion Settled computed by_computing)
-      (All-append Settled long (places ++ whole) (All-from_recursion Settled long by_lemma)
-        (All-append Settled places whole (All-from_recursion Settled places all_placed) (All-from_recursion Settled whole all_sampled)))
+    (All-append Settled long (places ++ whole) (All-from_recursion Settled long by_lemma)
+    (All-append Settled places whole (All-from_recursion Settled places all_placed) (All-from_recursion Settled whole all_sampled)))

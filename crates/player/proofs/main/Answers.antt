@@ -1,6 +1,6 @@
 use Rattle.std.proofs.Common.{length, vec_items, ap, arith}
 use Rattle.std.proofs.lemmas.List.{length-map}
-use Rattle.rackfile.specs.Records.{Seen, seen_as}
+use Rattle.rackfile.specs.Records.{seen_as}
 use Rattle.player.proofs.main.Goals as goal
 
 -- a file has fewer than 65,536 records

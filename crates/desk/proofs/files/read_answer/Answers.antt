@@ -1,7 +1,7 @@
 use Rattle.std.proofs.Common.{◌≡◌, ℕ, ◌<◌, length, get_or, IfOk, vec_items, string_bytes, sym, ap, ◌∙◌, subst, arith}
 use Rattle.std.proofs.lemmas.List.{length-map}
 use Rattle.rackfile.specs.Records.{seen_as}
-use Rattle.rackfile.specs.Files.{file_seen, reading}
+use Rattle.rackfile.specs.Files.{file_seen}
 use Rattle.rackfile.proofs.Standing.{reads_what_stands, bytes_from}
 use Rattle.desk.specs.Files.{file_text, reading_text}
 use Rattle.desk.proofs.files.read_answer.Goals as goal

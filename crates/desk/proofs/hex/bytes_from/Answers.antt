@@ -1,4 +1,4 @@
-use Rattle.std.proofs.Common.{◌≡◌, ℕ, ◌+◌, List, [], ◌∷◌, ◌++◌, drop, vec_items, sym, ap, ◌∙◌, arith}
+use Rattle.std.proofs.Common.{ℕ, ◌+◌, List, drop, vec_items, sym, ap, ◌∙◌, arith}
 use Rattle.desk.specs.Hex.{bytes_after}
 use Rattle.desk.proofs.Reading.{byte_more, byte_bad, one_left, none_left}
 use Rattle.desk.proofs.hex.bytes_from.Goals as goal

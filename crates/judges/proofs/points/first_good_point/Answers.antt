@@ -1,15 +1,13 @@
-use Rattle.std.proofs.Common.{◌≡◌, ℕ, suc, ◌+◌, ◌*◌, ◌<◌, ◌≤◌, min, true, List, length, get_or, take, sym, ap, ◌∙◌, subst, arith}
-use Rattle.std.specs.List.{AllByRecursion}
+use Rattle.std.proofs.Common.{◌≡◌, ℕ, suc, ◌+◌, ◌<◌, ◌≤◌, min, true, List, length, get_or, take, sym, ap, ◌∙◌, subst, arith}
 use Rattle.std.proofs.ByRecursion.{All-get_or}
 use Rattle.std.proofs.lemmas.List.{take_all}
 use Rattle.std.proofs.lemmas.Bool.{ltb-true, ltb-false, and_left, and_right, and_from}
 use Rattle.tasks.specs.declared.task.Task.{Task}
-use Rattle.tasks.specs.Rounding.{up}
 use Rattle.tasks.specs.Demand.{no_task, good}
 use Rattle.tasks.specs.Instants.{point}
 use Rattle.tasks.proofs.Bounds.{Limits, limits, all_limits}
 use Rattle.tasks.proofs.Goods.{good_from}
-use Rattle.tasks.proofs.Points.{PointAt, point_parts}
+use Rattle.tasks.proofs.Points.{point_parts}
 use Rattle.tasks.proofs.Leasts.{NoneBelow, none_further}
 use Rattle.judges.specs.Laws.{asked}
 use Rattle.judges.specs.Meanings.{good_point}

@@ -1,5 +1,5 @@
-use Rattle.std.proofs.Common.{◌≡◌, suc, ◌+◌, ◌<◌, ◌≤◌, ◌⊎◌, sym, inl, inr, arith}
-use Rattle.std.proofs.lemmas.Bool.{cases_lt, leb-true, leb-false}
+use Rattle.std.proofs.Common.{suc, ◌<◌, ◌≤◌, sym, arith}
+use Rattle.std.proofs.lemmas.Bool.{leb-true, leb-false}
 use Rattle.tasks.specs.Demand.{good}
 use Rattle.tasks.proofs.Goods.{good_from}
 use Rattle.tasks.proofs.Leasts.{none_further}

@@ -1,7 +1,6 @@
-use Rattle.std.proofs.Common.{◌≡◌, ◌^◌, ◌<◌, ◌≤◌, sym, ap, ◌∙◌, arith, rules}
+use Rattle.std.proofs.Common.{◌<◌, sym, ap, ◌∙◌, arith}
 use Rattle.std.proofs.lemmas.Bool.{leb-false}
-use Rattle.tasks.specs.Units.{ticks_answer, units_in, one_a_tick, ticks_for}
-use Rattle.tasks.specs.Demand.{demand}
+use Rattle.tasks.specs.Units.{ticks_answer, units_in, one_a_tick}
 use Rattle.tasks.proofs.Goods.{limits_exist, skipped}
 use Rattle.judges.specs.Choosing.{asked_parts}
 use Rattle.judges.proofs.Weights.{demand_is, demand_past, too_short, not_yet, ticks_is, ticks_past, never_good}

@@ -1,4 +1,4 @@
-use Rattle.std.proofs.Common.{◌≡◌, sym, arith}
+use Rattle.std.proofs.Common.{arith}
 use Rattle.seating.proofs.Answering.{admits_some, withdraws_some}
 use Rattle.seating.proofs.Once.{admits_once}
 use Rattle.seating.proofs.WithdrawOnce.{withdraws_once}

@@ -1,4 +1,4 @@
-use Rattle.std.proofs.Common.{ℕ, ◌-◌, List, length, take, drop, Some, sym, ap, ◌∙◌, rules}
+use Rattle.std.proofs.Common.{ℕ, ◌-◌, length, take, drop, Some, sym, ap, ◌∙◌, rules}
 use Rattle.rackfile.specs.Reading.{field}
 use Rattle.rackfile.proofs.Fields.{half_front}
 use Rattle.rackfile.proofs.bytes.half.Goals as goal

@@ -1,4 +1,4 @@
-use Rattle.std.proofs.Common.{◌≡◌, ℕ, ◌<◌, List, [], map, get_or, Ok, sym, ap, ◌∙◌, arith, rules}
+use Rattle.std.proofs.Common.{◌≡◌, ℕ, ◌<◌, get_or, Ok, arith, rules}
 use Rattle.rackfile.specs.Files.{file_seen, reading}
 use Rattle.rackfile.proofs.Standing.{stands, bytes_from}
 use Rattle.rackfile.proofs.file.read_file.Goals as goal

@@ -1,4 +1,4 @@
-use Rattle.std.proofs.Common.{◌≡◌, ℕ, ◌+◌, List, [], ◌∷◌, ◌++◌, get_or, drop, Some, None, vec_items, Option, sym, ap, ◌∙◌, subst}
+use Rattle.std.proofs.Common.{ℕ, ◌+◌, List, [], ◌∷◌, ◌++◌, drop, Some, None, vec_items, sym, ap, ◌∙◌}
 use Rattle.script.specs.Fields.{numbers_from, numbers_of}
 use Rattle.script.proofs.Reading.{numbers_digit, numbers_gap, numbers_bad, numbers_end, numbers_same}
 use Rattle.script.proofs.fields.numbers.Goals as goal

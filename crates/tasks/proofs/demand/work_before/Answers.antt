@@ -1,5 +1,4 @@
-use Rattle.std.proofs.Common.{◌*◌, ◌^◌, ◌<◌, ◌≤◌, ap, ◌∙◌, arith}
-use Rattle.std.proofs.lemmas.Bool.{cases_lt}
+use Rattle.std.proofs.Common.{◌*◌, ap, ◌∙◌, arith}
 use Rattle.tasks.specs.Rounding.{up}
 use Rattle.tasks.proofs.Sums.{work_some, work_past}
 use Rattle.tasks.proofs.demand.work_before.Goals as goal

@@ -1,4 +1,4 @@
-use Rattle.std.proofs.Common.{ℕ, ◌+◌, List, ◌++◌, get_or, drop, string_bytes, refl, ap, ◌∙◌, arith}
+use Rattle.std.proofs.Common.{ℕ, ◌+◌, List, ◌++◌, drop, string_bytes, refl, ap, ◌∙◌, arith}
 use Rattle.traces.specs.Traces.{behind_commas, places_text}
 use Rattle.traces.proofs.Instants.{grown, at_end, commas_more, commas_first}
 use Rattle.traces.proofs.tracing.places_text.Goals as goal

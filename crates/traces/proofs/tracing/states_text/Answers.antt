@@ -1,4 +1,4 @@
-use Rattle.std.proofs.Common.{◌+◌, drop, string_bytes, refl, ap, ◌∙◌}
+use Rattle.std.proofs.Common.{◌+◌, drop, string_bytes, refl, ◌∙◌}
 use Rattle.traces.specs.Traces.{states_text}
 use Rattle.traces.proofs.Instants.{grown, at_end, states_more}
 use Rattle.traces.proofs.tracing.states_text.Goals as goal

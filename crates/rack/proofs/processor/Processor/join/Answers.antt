@@ -1,11 +1,10 @@
-use Rattle.std.proofs.Common.{◌≡◌, ℕ, ◌+◌, ◌<◌, ◌≤◌, List, length, get_or, take, sym, refl, ap, ◌∙◌, subst, arith, rules}
+use Rattle.std.proofs.Common.{◌≡◌, ◌+◌, ◌<◌, ◌≤◌, List, length, sym, ap, ◌∙◌, subst, arith, rules}
 use Rattle.std.specs.List.{insert}
-use Rattle.tasks.specs.declared.task.Task.{Task}
 use Rattle.tasks.specs.declared.units.Ticks.{Ticks}
 use Rattle.tasks.specs.Limits.{all_within}
 use Rattle.tasks.specs.Priority.{by_priority}
 use Rattle.seating.specs.declared.seat.Seat.{Seat}
-use Rattle.seating.specs.Seats.{tasks_of, load_of, no_ticks, place_of, all_keep_good}
+use Rattle.seating.specs.Seats.{tasks_of, load_of}
 use Rattle.seating.proofs.Keeping.{good_joined}
 use Rattle.seating.proofs.Limiting.{within_joined, load_joined, load_bound}
 use Rattle.seating.proofs.Placing.{length-tasks, priority_joined}

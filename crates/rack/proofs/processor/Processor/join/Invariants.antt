@@ -1,4 +1,4 @@
-use Rattle.std.proofs.Common.{◌≡◌, ℕ, ◌+◌, ◌<◌, ◌≤◌}
+use Rattle.std.proofs.Common.{◌≡◌, ◌+◌}
 use Rattle.rack.specs.Taken.{taken_of}
 use Rattle.rack.proofs.Renewings.{Renewing}
 use Rattle.rack.proofs.processor.Processor.join.Given as goal

@@ -1,4 +1,4 @@
-use Rattle.std.proofs.Common.{◌≡◌, ℕ, ◌<◌, ◌≤◌, length, sym, refl, ap, ◌∙◌, subst, inl, inr, arith}
+use Rattle.std.proofs.Common.{length, sym, refl, inl, arith}
 use Rattle.rack.specs.Taken.{first_lists}
 use Rattle.rack.proofs.Granting.{never_both, passes_long, ready_for, settled_admits, settled_wide, settled_stays, settled_differ}
 use Rattle.rack.proofs.Shown.{length-first}

@@ -1,4 +1,4 @@
-use Rattle.std.proofs.Common.{◌≡◌, ◌<◌, ◌≤◌, List, length, get_or, sym, refl, ap, ◌∙◌, arith}
+use Rattle.std.proofs.Common.{List, length, get_or, sym, ap, ◌∙◌, arith}
 use Rattle.seating.specs.declared.seat.Seat.{Seat}
 use Rattle.seating.specs.Seats.{no_seat}
 use Rattle.rack.proofs.Living.{unchanged}

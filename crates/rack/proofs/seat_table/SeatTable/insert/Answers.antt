@@ -1,5 +1,4 @@
-use Rattle.std.proofs.Common.{◌≡◌, ◌+◌, ◌-◌, ◌<◌, ◌≤◌, length, sym, refl, ap, ◌∙◌, arith, length-set, rules}
-use Rattle.std.specs.List.{between}
+use Rattle.std.proofs.Common.{◌+◌, ◌-◌, refl, ◌∙◌, arith, length-set}
 use Rattle.std.proofs.lemmas.List.Edits.{length-between}
 use Rattle.rack.proofs.Shifting.{joined_front, length_part, in_part}
 use Rattle.rack.proofs.seat_table.SeatTable.insert.Goals as goal

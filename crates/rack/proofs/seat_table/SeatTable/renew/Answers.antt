@@ -1,4 +1,4 @@
-use Rattle.std.proofs.Common.{◌≡◌, take, set, sym, refl, ap, ◌∙◌}
+use Rattle.std.proofs.Common.{take, set, sym, refl, ap, ◌∙◌}
 use lib.Seq.{take-set-lt}
 use Rattle.std.proofs.lemmas.List.{get_or-take}
 use Rattle.seating.specs.declared.seat.Seat.{Seat}

@@ -1,3 +1,4 @@
+-- First fit, best fit and worst fit keep the laws of a preference.
 use Rattle.std.proofs.Common.{rules}
 use Rattle.preferences.specs.Laws.{PreferenceLaws}
 use Rattle.preferences.specs.Fits.{first_fit, best_fit, worst_fit}
