@@ -64,7 +64,7 @@ pub record HeaderBack (s : List ℕ) (p : Policy) : Type 0 where
   pub rest : AreBytes (drop 9 s)
 
 pub header_back : (whole : ℕ) (s : List ℕ) (p : Policy) → AreBytes s → header_fault whole s ≡ None → policy_named (get_or s 5 0) ≡ Some p → HeaderBack s p
-header_back whole s p b e Named-by =
+header_back whole s p b e named_by =
     let c1 = cond-none (ltb (length s) 3) _ _ e in
     let c2 = cond-none (not (is_mark (get_or s 0 0) (get_or s 1 0) (get_or s 2 0))) _ _ c1.1 in
     let c3 = cond-none (ltb (length s) 5) _ _ c2.1 in
@@ -84,7 +84,7 @@ header_back whole s p b e Named-by =
     let version = eqb-true (get_or s 3 0 * 256 + get_or s 4 0) 1 (not-false (is_version (get_or s 3 0) (get_or s 4 0)) c4.0) in
     let high : get_or s 3 0 ≡ 0 = omega arith in
     let low : get_or s 4 0 ≡ 1 = omega arith in
-    let letter = letter_named (get_or s 5 0) p Named-by in
+    let letter = letter_named (get_or s 5 0) p named_by in
     let b7 = b 7 0 (omega arith) in
     let b8 = b 8 0 (omega arith) in
     let more : get_or s 7 0 ≡ count_in s / 256 = omega arith in

@@ -59,11 +59,11 @@ stands input f b e =
     head (header_fault (length input) input) refl c.1 (ltb-false 65536 (length input) c.0)
   where
     last : (p : Policy) → policy_named (get_or input 5 0) ≡ Some p → header_fault (length input) input ≡ None → (run : Result (List Seen × List ℕ) RecordFault) → read_records (length input) (count_in input) (drop 9 input) ≡ run → with_records (length input) (Some p) (get_or input 6 0) run ≡ Ok f → length input ≤ 65536 → Stands input f
-    last p Named-by right (Err g) run h short = let z : ◌≡◌ {A = ℕ} 0 1 = cc in absurd (omega arith)
-    last p Named-by right (Ok x) run h short =
+    last p named_by right (Err g) run h short = let z : ◌≡◌ {A = ℕ} 0 1 = cc in absurd (omega arith)
+    last p named_by right (Ok x) run h short =
         let d = cond-right (eqb (length x.1) 0) (Ok (record { policy = p; m = get_or input 6 0; records = x.0 })) _ f h in
         let same = file_back (record { policy = p; m = get_or input 6 0; records = x.0 }) f d.1 in
-        let top = header_back (length input) input p b right Named-by in
+        let top = header_back (length input) input p b right named_by in
         let nothing = nil_from_length x.1 (eqb-true (length x.1) 0 d.0) in
         let rs = records_back (length input) 9 (count_in input) (drop 9 input) x.0 x.1 (omega (arith, length-drop 9 input, top.long)) top.rest run in
         subst (Stands input) same (record {

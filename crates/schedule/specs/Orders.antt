@@ -1,5 +1,5 @@
 -- Fixed priority orders of the same tasks: rate-monotonic order is optimal among them (Liu and Layland 1973).
--- `Shuffled ts us` says that us is a permutation of ts: exchanges of two places at a time lead from the one to the other. Priority order is by periods; tasks of equal periods may stand either way.
+-- `IsPermutation ts us` says that us is a permutation of ts: exchanges of two places at a time lead from the one to the other. Priority order is by periods; tasks of equal periods may stand either way.
 use Rattle.std.specs.Prelude.{◌≡◌, Bool, true, ◌⊎◌, ◌↔◌, List, ◌∷◌, count_by}
 use Rattle.std.specs.List.Sorted.{IsPermutation}
 use Rattle.tasks.specs.declared.task.Task.{Task}
