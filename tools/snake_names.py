@@ -16,7 +16,7 @@ root = sys.argv[1]
 write = "--write" in sys.argv
 CRATES = "|".join(sorted(os.listdir(os.path.join(root, "crates"))))
 WORD = re.compile(r"[A-Za-z_][\w'\-]*(?<!-)")
-DECLARED = re.compile(r"(?m)^ *(?:abbrev |unfoldable |ruleset |record |data |pub )*([A-Za-z][\w'\-]*) (?=::|:|\()")
+DECLARED = re.compile(r"(?m)^ *(?:abbrev |unfoldable |ruleset |record |data |pub )*([A-Za-z][\w'\-]*)(?: |\n +)(?=::|:|[({])")
 IMPORTED = re.compile(r"(?m)^\s*(?:pub |ghost )*use (?!Rattle\.(?:%s)\.)\S+?\.\{([^}]*)\}" % CRATES)
 JOINED = re.compile(r"(length|take|drop|sum|cond|append|reverse)-\w+$")
 

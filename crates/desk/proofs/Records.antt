@@ -31,8 +31,8 @@ one_more start records n q sheet₀ out₀ lines₀ long one r sheet out lines b
     )
 
 -- the lines of a file that was begun
-pub play-made
+pub play_made
     : {E : Type 0} (input : List ℕ) (play : Play) (rs : List Record) → rs ≡ vec_items play.records → Begins input (Ok play) → (t : Result (Vec ℕ Global) E)
     → IfOk t (λ v. AllPlayed play.rack (map seen_as rs) (vec_items v)) → IfOk t (λ v. PlayedAs input (vec_items v))
-play-made input play rs e began (Ok v) h = (Ok play, began, subst (λ l. AllPlayed play.rack (map seen_as l) (vec_items v)) e h)
-play-made input play rs e began (Err y) h = tt
+play_made input play rs e began (Ok v) h = (Ok play, began, subst (λ l. AllPlayed play.rack (map seen_as l) (vec_items v)) e h)
+play_made input play rs e began (Err y) h = tt
