@@ -4,8 +4,9 @@
 usage: snake_names.py ROOT [--write]      (without --write it only lists)
 
 It turns whole names only, in specs/, proofs/, src/, must-fail/, and in backquotes in comments, docs/ and README.md; strings and plain comments stay.
-Types and modules keep their upper camel case. In a lemma's name a dash stays where it joins one of std's list words to another name, as in `length-joined`.
+Types and modules keep their upper camel case. In a lemma's name a dash stays where it joins one of std's words (`length`, `take`, `cond`, ..) to another name, as in `length-joined`.
 Names of std, of the kit and of the checker's goals are not touched: only a name that a file of specs/ or proofs/ declares is turned.
+docs/PORT.md, which lists the old names, stays as it is.
 """
 import glob
 import os
@@ -18,7 +19,7 @@ CRATES = "|".join(sorted(os.listdir(os.path.join(root, "crates"))))
 WORD = re.compile(r"[A-Za-z_][\w'\-]*(?<!-)")
 DECLARED = re.compile(r"(?m)^ *(?:abbrev |unfoldable |ruleset |record |data |pub )*([A-Za-z][\w'\-]*)(?: |\n +)(?=::|:|[({])")
 IMPORTED = re.compile(r"(?m)^\s*(?:pub |ghost )*use (?!Rattle\.(?:%s)\.)\S+?\.\{([^}]*)\}" % CRATES)
-JOINED = re.compile(r"(length|take|drop|sum|cond|append|reverse)-\w+$")
+JOINED = re.compile(r"(length|take|drop|cond|append|reverse)-\w+$")
 
 
 def files(*parts):
@@ -75,6 +76,8 @@ if len(set(new.values())) != len(new):
     sys.exit("two names would become one")
 count = 0
 for path, text in files(*ANTT, "crates/*/src/**/*.rt", "crates/*/must-fail/*.edit", "docs/*.md", "README.md"):
+    if path.endswith("PORT.md"):
+        continue
     now = quoted(text) if path.endswith(".md") else code(text, "--" if path.endswith(".antt") else "//")
     if now != text:
         count += 1

@@ -34,13 +34,13 @@ pub ready_is : (ts : List Task) (rs : List Release) (n p : ℕ) → p < length t
 ready_is ts rs n p l = with_at_0 rs n p ts (states_at ts rs n) (length-states ts rs n) l
 
 -- a place past the end is never waiting
-getD_past_idle : (ss : List State) (p : ℕ) → length ss ≤ p → get_or ss p Idle ≡ Idle
-getD_past_idle [] p l = refl
-getD_past_idle (s ∷ ss) zero l = absurd (omega arith)
-getD_past_idle (s ∷ ss) (suc p) l = getD_past_idle ss p (omega arith)
+get_or_past_idle : (ss : List State) (p : ℕ) → length ss ≤ p → get_or ss p Idle ≡ Idle
+get_or_past_idle [] p l = refl
+get_or_past_idle (s ∷ ss) zero l = absurd (omega arith)
+get_or_past_idle (s ∷ ss) (suc p) l = get_or_past_idle ss p (omega arith)
 
 pub past_idle : (ts : List Task) (rs : List Release) (n p : ℕ) → length ts ≤ p → get_or (states_at ts rs n) p Idle ≡ Idle
-past_idle ts rs n p l = getD_past_idle (states_at ts rs n) p (omega (arith, length-states ts rs n))
+past_idle ts rs n p l = get_or_past_idle (states_at ts rs n) p (omega (arith, length-states ts rs n))
 
 -- one tick, as one place sees it
 

@@ -72,14 +72,14 @@ module _ (x : Task) (above : List Task) (t i sum : ℕ) (so_far : Summed x.work.
   pub sum_past : (w : ℕ) → Some (record { 0 = w }) ≡ work_answer (get_or above i no_task) t → 2 ^ 64 ≤ sum + w → None ≡ demand_answer x above t
   sum_past w e h = past (omega (arith, so_far.total, work_first, (work_is (get_or above i no_task) t w e).value))
 
-  pub sum-none : None ≡ work_answer (get_or above i no_task) t → None ≡ demand_answer x above t
-  sum-none e = elim (cases_Bool (leb 1 (get_or above i no_task).period.0)) [
+  pub sum_none : None ≡ work_answer (get_or above i no_task) t → None ≡ demand_answer x above t
+  sum_none e = elim (cases_Bool (leb 1 (get_or above i no_task).period.0)) [
     | inl p ↦ past (omega (arith, so_far.total, work_first, work_none (get_or above i no_task) t e p))
     | inr p ↦ sym (cond-false (periods_exist above) (in_64_bits (demand x above t)) None (sym so_far.rest ∙ periods_first ∙ and_left (leb 1 (get_or above i no_task).period.0) (periods_exist (drop (i + 1) above)) p))
   ]
 
-pub sum-all : (x : Task) (above : List Task) (t i sum : ℕ) → Summed x.work.0 above t i sum → length above ≤ i → Some (record { 0 = sum }) ≡ demand_answer x above t
-sum-all x above t i sum so_far end =
+pub sum_all : (x : Task) (above : List Task) (t i sum : ℕ) → Summed x.work.0 above t i sum → length above ≤ i → Some (record { 0 = sum }) ≡ demand_answer x above t
+sum_all x above t i sum so_far end =
     let rest : work_before (drop i above) t ≡ 0 = at_drop_all (λ (l : List Task). work_before l t) above i end in
     let e : sum ≡ demand x above t = omega (arith, so_far.total, rest) in
     let p : periods_exist above ≡ true = sym so_far.rest ∙ at_drop_all periods_exist above i end in

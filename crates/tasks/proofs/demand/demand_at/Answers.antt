@@ -1,12 +1,12 @@
 use Rattle.std.proofs.Common.{◌+◌, sym, refl, subst, arith}
-use Rattle.tasks.proofs.Sums.{Summed, sum_more, sum_past, sum-none, sum-all}
+use Rattle.tasks.proofs.Sums.{Summed, sum_more, sum_past, sum_none, sum_all}
 use Rattle.tasks.proofs.demand.demand_at.Goals as goal
 
 pub loop-other-init : goal.loop-other-init
 loop-other-init c = record { total = refl; rest = refl; fits = omega arith }
 
 pub returns-in_default : goal.returns-in_default
-returns-in_default c = sum-none c.args.task c.args.above.now c.args.t.0 c.loop-other.other-index c.loop-other.sum c.loop-other.invariant c.loop-other-test.true c.in_default.ensures
+returns-in_default c = sum_none c.args.task c.args.above.now c.args.t.0 c.loop-other.other-index c.loop-other.sum c.loop-other.invariant c.loop-other-test.true c.in_default.ensures
 
 pub returns-in_default-checked_add : goal.returns-in_default-checked_add
 returns-in_default-checked_add c = sum_past c.args.task c.args.above.now c.args.t.0 c.loop-other.other-index c.loop-other.sum c.loop-other.invariant c.loop-other-test.true c.in-Some.work.0 c.in-Some.ensures (omega (arith, c.in_default-checked_add.ensures))
@@ -18,4 +18,4 @@ loop-other-preserved c =
     (sum_more c.args.task c.args.above.now c.args.t.0 c.loop-other.other-index c.loop-other.sum c.loop-other.invariant c.loop-other-test.true c.in-Some.work.0 c.in-Some.ensures c.in-Some-checked_add.ensures.0)
 
 pub returns : goal.returns
-returns c = sum-all c.args.task c.args.above.now c.args.t.0 c.loop-other.other-index c.loop-other.sum c.loop-other.invariant c.loop-other-test.false
+returns c = sum_all c.args.task c.args.above.now c.args.t.0 c.loop-other.other-index c.loop-other.sum c.loop-other.invariant c.loop-other-test.false
