@@ -1,7 +1,7 @@
 #!/usr/bin/env python3
 """Writes the rack files of the table of measured times in README.md into a folder that is there.
 
-usage: measured_files.py FOLDER      then e.g.  time crates/player/out/player < FOLDER/typical.rak > /dev/null
+usage: measured_files.py FOLDER      then, once the player is built,  time crates/player/out/player < FOLDER/typical.rak > /dev/null
 
 Every file asks for sixteen processors, labels have one byte, and the same files come out each time. `ones` is `worst` without its
 ten refused records: its time is to be taken off, and the rest divided by ten.
