@@ -1,29 +1,16 @@
 // What may be asked, and what the demand at an instant says of it and of those after it.
 ghost use Rattle.std.specs.Prelude.{◌≡◌, true, length, nat_le};
-ghost use Rattle.tasks.specs.Limits.{all_within};
 ghost use Rattle.tasks.specs.Units.{units_in, one_a_tick};
 ghost use Rattle.judges.specs.Laws.{few, asked};
 ghost use Rattle.judges.specs.Weighing.{Weighs};
 
-use tasks::{Speed, Task, Ticks, Units, demand_at};
+use tasks::{Speed, Task, Ticks, Units, all_keep_limits, demand_at};
 
 // Whether at most 31 tasks stand above.
 fn are_few(above: &[Task]) -> bool
     ensures { result ≡ few above.now }
 {
     above.len() <= 31
-}
-
-// Whether each task keeps the limits.
-fn all_keep_limits(tasks: &[Task]) -> bool
-    ensures { result ≡ all_within tasks.now }
-{
-    for task in tasks {
-        if !task.keeps_limits() {
-            return false;
-        }
-    }
-    true
 }
 
 // Whether a judge may be asked about the task below those above it.

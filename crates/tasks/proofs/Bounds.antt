@@ -1,7 +1,8 @@
 -- The limits of a task, part by part.
-use Rattle.std.proofs.Common.{◌≡◌, ◌≤◌, true, leb, List, [], ◌∷◌}
-use Rattle.std.specs.List.{AllByRecursion}
+use Rattle.std.proofs.Common.{◌≡◌, ◌≤◌, true, leb, All, List}
 use Rattle.std.proofs.lemmas.Bool.{and_parts, leb-true}
+use Rattle.std.proofs.lemmas.List.Elements.{All-weaker}
+use Rattle.std.proofs.lemmas.List.Sums.{AllPass-from_list_all}
 use Rattle.tasks.specs.declared.task.Task.{Task}
 use Rattle.tasks.specs.Units.{units_in, one_a_tick}
 use Rattle.tasks.specs.Limits.{period_allowed, work_allowed, within_limits, all_within}
@@ -24,6 +25,5 @@ limits x h =
       work_to = leb-true x.work.0 (units_in one_a_tick x.period.0) w.1;
     }
 
-pub all_limits : (xs : List Task) → all_within xs ≡ true → AllByRecursion Limits xs
-all_limits [] h = tt
-all_limits (x ∷ xs) h = let p = and_parts (within_limits x) (all_within xs) h in (limits x p.0, all_limits xs p.1)
+pub all_limits : (xs : List Task) → all_within xs ≡ true → All Limits xs
+all_limits xs h = All-weaker (λ x. within_limits x ≡ true) Limits limits xs (AllPass-from_list_all within_limits xs h)
