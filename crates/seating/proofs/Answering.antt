@@ -1,6 +1,7 @@
 -- Every call has an answer.
 use Rattle.std.proofs.Common.{◌≡◌, ℕ, zero, suc, ◌+◌, ◌-◌, ◌<◌, ◌≤◌, Bool, true, false, cond, not, ◌||◌, eqb, ltb, ◌⊎◌, List, [], ◌∷◌, ◌++◌, length, get_or, take, drop, set, Some, None, Ok, Err, Option, Result, sym, refl, ap, ◌∙◌, subst, inl, inr, ⊎_elim, arith, drop-cons}
 use Rattle.std.specs.List.{remove}
+use Rattle.std.specs.Option.{option_or}
 use Rattle.std.proofs.lemmas.List.{take-append-drop, drop_all, drop_at, take_at, take-map, map-append, length-take-le, length-append, length-drop, get_or_append_left, get_or-append_right, get_or-set_same}
 use Rattle.std.proofs.lemmas.Bool.{cases_lt, cases_eq, cases_Bool, eqb-true, ltb-false, and_from, not_from_false}
 use Rattle.tasks.specs.declared.task.Task.{Task}
@@ -14,7 +15,8 @@ use Rattle.seating.specs.declared.seat.Seat.{Seat}
 use Rattle.seating.specs.declared.refusal.AdmitRefusal.{AdmitRefusal}
 use Rattle.seating.specs.declared.refusal.AdmitRefusal.TheVariants.{ShortSheet, NumberZero, BadPeriod, BadWork, AlreadySeated, AllFull, NoTaker}
 use Rattle.seating.specs.declared.refusal.WithdrawRefusal.TheVariants.{NotSeated}
-use Rattle.seating.specs.Refusals.{admitting, number_of}
+use Rattle.seating.specs.declared.refused.Refused.TheVariants.{Admitting}
+use Rattle.seating.specs.Refusals.{number_of}
 use Rattle.seating.specs.Seats.{Lists, tasks_of, no_seat, place_of, holds, seated, all_full, Kept}
 use Rattle.seating.specs.Admission.{earlier, said, on, as_seen, WouldTake, Entry, Joins, Admits, AdmitsSome}
 use Rattle.seating.specs.Judging.{Given, AllGiven, FirstNone}
@@ -33,9 +35,9 @@ none_is_no : (n : ℕ) → ◌≡◌ {A = Option ℕ} None (Some n) → ⊥
 none_is_no n h = let z : ◌≡◌ {A = ℕ} 0 1 = cc in omega arith
 
 abbrev chain : Bool → Bool → Bool → Bool → Bool → Bool → Option ℕ
-chain b₁ b₂ b₃ b₄ b₅ b₆ = cond b₁ (Some 2) (cond b₂ (Some 3) (cond (not b₃) (Some 4) (cond (not b₄) (Some 5) (cond b₅ (Some 6) (cond b₆ (Some 7) None)))))
+chain b₁ b₂ b₃ b₄ b₅ b₆ = option_or (cond b₁ (Some 2) (cond b₂ (Some 3) (cond (not b₃) (Some 4) (cond (not b₄) (Some 5) None)))) (cond b₅ (Some 6) (cond b₆ (Some 7) None))
 
-has_name : (b₁ b₂ b₃ b₄ b₅ b₆ : Bool) (n : ℕ) → chain b₁ b₂ b₃ b₄ b₅ b₆ ≡ Some n → (e : AdmitRefusal) × (number_of (admitting e) ≡ n)
+has_name : (b₁ b₂ b₃ b₄ b₅ b₆ : Bool) (n : ℕ) → chain b₁ b₂ b₃ b₄ b₅ b₆ ≡ Some n → (e : AdmitRefusal) × (number_of (Admitting e) ≡ n)
 has_name true b₂ b₃ b₄ b₅ b₆ n h = (ShortSheet, same_number 2 n h)
 has_name false true b₃ b₄ b₅ b₆ n h = (NumberZero, same_number 3 n h)
 has_name false false false b₄ b₅ b₆ n h = (BadPeriod, same_number 4 n h)

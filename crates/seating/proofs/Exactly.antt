@@ -12,13 +12,8 @@ use Rattle.seating.specs.Seats.{tasks_of, no_seat, place_of, all_keep_good}
 use Rattle.seating.specs.Admission.{said}
 use Rattle.seating.specs.Judging.{Given, DecidesFit, TakesExactly}
 use Rattle.seating.proofs.Keeping.{each_keeps}
-use Rattle.seating.proofs.Limiting.{within_joined}
+use Rattle.seating.proofs.Limiting.{within_each, within_joined}
 use Rattle.seating.proofs.Placing.{length-tasks, length-joined, place_le, above_stays, take-joined}
-
-pub within_at : (ts : List Task) (k : ℕ) → k < length ts → all_within ts ≡ true → within_limits (get_or ts k no_task) ≡ true
-within_at [] k h a = absurd (omega arith)
-within_at (y ∷ ys) zero h a = (and_parts (within_limits y) (all_within ys) a).0
-within_at (y ∷ ys) (suc k) h a = within_at ys k (omega arith) (and_parts (within_limits y) (all_within ys) a).1
 
 within_take : (k : ℕ) (ts : List Task) → all_within ts ≡ true → all_within (take k ts) ≡ true
 within_take zero ts a = refl
@@ -49,7 +44,7 @@ module _ (mean : Meaning) (laws : JudgeLaws mean) (x : Task) (ss : List Seat) (o
       let w = within_joined x ts own limits in
       and_from (leb (length (take k all)) 31) (within_limits (get_or all k no_task) && all_within (take k all))
       (le-leb (length (take k all)) 31 (omega (arith, long, length-take-le k all (omega arith))))
-      (and_from (within_limits (get_or all k no_task)) (all_within (take k all)) (within_at all k h w) (within_take k all w))
+      (and_from (within_limits (get_or all k no_task)) (all_within (take k all)) (within_each all w k no_task h) (within_take k all w))
 
   fits_above : (k : ℕ) → k < place → FitsAt all k
   fits_above k lt =

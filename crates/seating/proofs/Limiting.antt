@@ -1,7 +1,8 @@
 -- Limits, loads and priority order, of a list that a task joins or leaves.
-use Rattle.std.proofs.Common.{◌≡◌, ℕ, zero, suc, ◌+◌, ◌*◌, ◌<◌, ◌≤◌, true, List, [], ◌∷◌, length, get_or, refl, arith}
+use Rattle.std.proofs.Common.{◌≡◌, ℕ, zero, suc, ◌+◌, ◌*◌, ◌<◌, ◌≤◌, true, List, [], ◌∷◌, length, get_or, refl, ap, ◌∙◌, arith}
 use Rattle.std.specs.List.{remove}
 use Rattle.std.proofs.lemmas.Bool.{cond_both, and_from, and_parts, le-leb, leb-true}
+use Rattle.std.proofs.lemmas.List.Sums.{sum_by-le, sum_by-insert, sum_by-remove}
 use Rattle.tasks.specs.declared.task.Task.{Task}
 use Rattle.tasks.specs.Limits.{within_limits, all_within}
 use Rattle.tasks.specs.Share.{share_of}
@@ -9,7 +10,8 @@ use Rattle.tasks.specs.Priority.{stands_above, by_priority, joined}
 use Rattle.tasks.specs.Demand.{no_task, work_before}
 use Rattle.tasks.proofs.Bounds.{limits}
 use Rattle.tasks.proofs.Roundings.{up_least}
-use Rattle.seating.specs.Seats.{load_of}
+use Rattle.seating.specs.Seats.{load_of, place_of}
+use Rattle.seating.proofs.Placing.{joined_at_place}
 
 pub within_joined : (x : Task) (ts : List Task) → within_limits x ≡ true → all_within ts ≡ true → all_within (joined x ts) ≡ true
 within_joined x [] h k = and_from (within_limits x) true h refl
@@ -27,26 +29,24 @@ within_removed (y ∷ ys) (suc i) k =
     let a = and_parts (within_limits y) (all_within ys) k in
     and_from (within_limits y) (all_within (remove ys i)) a.0 (within_removed ys i a.1)
 
+pub within_each : (ts : List Task) → all_within ts ≡ true → (k : ℕ) (d : Task) → k < length ts → within_limits (get_or ts k d) ≡ true
+within_each [] a k d h = absurd (omega arith)
+within_each (y ∷ ys) a zero d h = (and_parts (within_limits y) (all_within ys) a).0
+within_each (y ∷ ys) a (suc k) d h = within_each ys (and_parts (within_limits y) (all_within ys) a).1 k d (omega arith)
+
 pub share_bound : (x : Task) → within_limits x ≡ true → share_of x ≤ 1000000
 share_bound x h =
     let l = limits x h in
     up_least (x.work.0 * 1000000) x.period.0 1000000 l.period_from (omega (arith, l.work_to))
 
 pub load_bound : (ts : List Task) → all_within ts ≡ true → load_of ts ≤ length ts * 1000000
-load_bound [] h = omega arith
-load_bound (x ∷ xs) h =
-    let a = and_parts (within_limits x) (all_within xs) h in
-    omega (arith, share_bound x a.0, load_bound xs a.1)
+load_bound ts h = sum_by-le share_of 1000000 ts (λ k d lt. share_bound (get_or ts k d) (within_each ts h k d lt))
 
 pub load_joined : (x : Task) (ts : List Task) → load_of (joined x ts) ≡ share_of x + load_of ts
-load_joined x [] = refl
-load_joined x (y ∷ ys) = let ih = load_joined x ys in
-    cond_both (stands_above y x) (y ∷ joined x ys) (x ∷ (y ∷ ys)) (λ l. load_of l ≡ share_of x + load_of (y ∷ ys)) (λ _. omega arith) (λ _. refl)
+load_joined x ts = ap load_of (joined_at_place x ts) ∙ omega (arith, sum_by-insert share_of ts (place_of x ts) x)
 
 pub load_removed : (ts : List Task) (i : ℕ) → i < length ts → load_of (remove ts i) + share_of (get_or ts i no_task) ≡ load_of ts
-load_removed [] i h = omega arith
-load_removed (y ∷ ys) zero h = omega arith
-load_removed (y ∷ ys) (suc i) h = omega (arith, load_removed ys i (omega arith))
+load_removed ts i h = sum_by-remove share_of ts i no_task h
 
 pub work_removed : (ts : List Task) (i t : ℕ) → work_before (remove ts i) t ≤ work_before ts t
 work_removed [] zero t = omega arith

@@ -14,7 +14,9 @@ use Rattle.seating.specs.declared.refusal.AdmitRefusal.TheVariants.{ShortSheet, 
 use Rattle.seating.specs.declared.refusal.MakeRefusal.TheVariants.{ProcessorCount}
 use Rattle.seating.specs.declared.refusal.WithdrawRefusal.TheVariants.{NotSeated}
 use Rattle.seating.specs.declared.refusal.QuestionRefusal.TheVariants.{NoProcessor}
-use Rattle.seating.specs.Refusals.{Refused, making, admitting, withdrawing, asking, number_of, NumbersDiffer}
+use Rattle.seating.specs.declared.refused.Refused.{Refused}
+use Rattle.seating.specs.declared.refused.Refused.TheVariants.{Making, Admitting, Withdrawing, Asking}
+use Rattle.seating.specs.Refusals.{number_of, NumbersDiffer}
 use Rattle.seating.specs.Seats.{Lists, tasks_of, no_seat, place_of}
 use Rattle.seating.specs.Admission.{FirstUnfit, Entry, Joins, Granted, TurnedAway, RefusedEarly, Admits, AdmitsOnce, as_seen}
 use Rattle.seating.proofs.Placing.{length-tasks, length-joined}
@@ -28,34 +30,34 @@ none_some o x p q = let z : ◌≡◌ {A = ℕ} 0 1 = cc in omega arith
 -- the refusal of a number
 named : ℕ → Refused
 named n =
-    cond (eqb n 1) (making ProcessorCount) (cond (eqb n 2) (admitting ShortSheet) (cond (eqb n 3) (admitting NumberZero) (cond (eqb n 4) (admitting BadPeriod) (cond (eqb n 5) (admitting BadWork)
-    (cond (eqb n 6) (admitting AlreadySeated) (cond (eqb n 7) (admitting AllFull) (cond (eqb n 8) (admitting NoTaker) (cond (eqb n 9) (withdrawing NotSeated) (asking NoProcessor)))))))))
+    cond (eqb n 1) (Making ProcessorCount) (cond (eqb n 2) (Admitting ShortSheet) (cond (eqb n 3) (Admitting NumberZero) (cond (eqb n 4) (Admitting BadPeriod) (cond (eqb n 5) (Admitting BadWork)
+    (cond (eqb n 6) (Admitting AlreadySeated) (cond (eqb n 7) (Admitting AllFull) (cond (eqb n 8) (Admitting NoTaker) (cond (eqb n 9) (Withdrawing NotSeated) (Asking NoProcessor)))))))))
 
 named_back : (a : Refused) → named (number_of a) ≡ a
 unfolding named
-named_back (making ProcessorCount) = refl
-named_back (admitting ShortSheet) = refl
-named_back (admitting NumberZero) = refl
-named_back (admitting BadPeriod) = refl
-named_back (admitting BadWork) = refl
-named_back (admitting AlreadySeated) = refl
-named_back (admitting AllFull) = refl
-named_back (admitting NoTaker) = refl
-named_back (withdrawing NotSeated) = refl
-named_back (asking NoProcessor) = refl
+named_back (Making ProcessorCount) = refl
+named_back (Admitting ShortSheet) = refl
+named_back (Admitting NumberZero) = refl
+named_back (Admitting BadPeriod) = refl
+named_back (Admitting BadWork) = refl
+named_back (Admitting AlreadySeated) = refl
+named_back (Admitting AllFull) = refl
+named_back (Admitting NoTaker) = refl
+named_back (Withdrawing NotSeated) = refl
+named_back (Asking NoProcessor) = refl
 
 pub numbers_differ : NumbersDiffer
 numbers_differ a b e = sym (named_back a) ∙ ap named e ∙ named_back b
 
 admitted : Refused → AdmitRefusal
-admitted (admitting e) = e
-admitted (making e) = NoTaker
-admitted (withdrawing e) = NoTaker
-admitted (asking e) = NoTaker
+admitted (Admitting e) = e
+admitted (Making e) = NoTaker
+admitted (Withdrawing e) = NoTaker
+admitted (Asking e) = NoTaker
 
-one_error : (a₁ a₂ : Result (ℕ × Ticks) AdmitRefusal) (e d : AdmitRefusal) → a₁ ≡ Err e → a₂ ≡ Err d → number_of (admitting e) ≡ number_of (admitting d) → a₁ ≡ a₂
+one_error : (a₁ a₂ : Result (ℕ × Ticks) AdmitRefusal) (e d : AdmitRefusal) → a₁ ≡ Err e → a₂ ≡ Err d → number_of (Admitting e) ≡ number_of (Admitting d) → a₁ ≡ a₂
 unfolding admitted
-one_error a₁ a₂ e d p q n = p ∙ ap (λ (r : Refused). Err (admitted r)) (numbers_differ (admitting e) (admitting d) n) ∙ sym q
+one_error a₁ a₂ e d p q n = p ∙ ap (λ (r : Refused). Err (admitted r)) (numbers_differ (Admitting e) (Admitting d) n) ∙ sym q
 
 module _ (mean : Meaning) (x : Task) (ss : List Seat) where
   first_unfit_once : (ts : List Task) (m n : ℕ) → FirstUnfit ts m → FirstUnfit ts n → m ≡ n
@@ -98,10 +100,10 @@ module _ (mean : Meaning) (bef : Relation) (laws : PreferenceLaws bef) (b : List
   Grant a s b' = (o : ℕ × Ticks) × (a ≡ Ok o) × Granted mean bef b x sheet o.0 o.1 s b'
 
   abbrev Turned : Result (ℕ × Ticks) AdmitRefusal → List ℕ → Lists → Type 0
-  Turned a s b' = (e : AdmitRefusal) × (a ≡ Err e) × (number_of (admitting e) ≡ 8) × TurnedAway b x sheet s b'
+  Turned a s b' = (e : AdmitRefusal) × (a ≡ Err e) × (number_of (Admitting e) ≡ 8) × TurnedAway b x sheet s b'
 
   abbrev Early : Result (ℕ × Ticks) AdmitRefusal → List ℕ → Lists → Type 0
-  Early a s b' = (e : AdmitRefusal) × (a ≡ Err e) × RefusedEarly b x (number_of (admitting e)) sheet s b'
+  Early a s b' = (e : AdmitRefusal) × (a ≡ Err e) × RefusedEarly b x (number_of (Admitting e)) sheet s b'
 
   split : (a : Result (ℕ × Ticks) AdmitRefusal) (s : List ℕ) (b' : Lists) → Admits mean bef b x sheet a s b' → Grant a s b' ⊎ (Turned a s b' ⊎ Early a s b')
   split (Ok o) s b' h = inl (o, refl, h)
@@ -153,7 +155,7 @@ module _ (mean : Meaning) (bef : Relation) (laws : PreferenceLaws bef) (b : List
   once a₁ a₂ s₁ s₂ b₁ b₂ (inr (inr f)) (inr (inr g)) =
       let k = f.2.cause in
       let l = g.2.cause in
-      let same : number_of (admitting f.0) ≡ number_of (admitting g.0) = cc in
+      let same : number_of (Admitting f.0) ≡ number_of (Admitting g.0) = cc in
       (one_error a₁ a₂ f.0 g.0 f.1 g.1 same, f.2.sheet_stays ∙ sym g.2.sheet_stays, f.2.seats_stay ∙ sym g.2.seats_stay)
 
 pub admits_once : AdmitsOnce

@@ -1,5 +1,5 @@
 -- The seats above a newcomer keep good instants. So a lawful judge who is asked about the newcomer and the seats below it alone decides whether the whole list fits.
-use Rattle.std.specs.Prelude.{◌≡◌, ℕ, ◌+◌, ◌<◌, ◌≤◌, true, List, length, Some, None, slice_index_or}
+use Rattle.std.specs.Prelude.{◌≡◌, ℕ, ◌+◌, ◌<◌, ◌≤◌, true, List, length, Some, None, get_or}
 use Rattle.tasks.specs.declared.task.Task.{Task}
 use Rattle.tasks.specs.declared.units.Ticks.{Ticks}
 use Rattle.tasks.specs.Limits.{within_limits, all_within}
@@ -25,7 +25,7 @@ module _ (mean : Meaning) (x : Task) (ss : List Seat) where
     pub below : place_of x (tasks_of ss) ≤ at
     pub within : at < length ss + 1
     pub none : said mean (joined x (tasks_of ss)) at ≡ None
-    pub number : n ≡ (slice_index_or (joined x (tasks_of ss)) at no_task).number
+    pub number : n ≡ (get_or (joined x (tasks_of ss)) at no_task).number
     pub before : (k : ℕ) → place_of x (tasks_of ss) ≤ k → k < at → Given k
 
   pub record DecidesFit : Type 0 where
