@@ -1,5 +1,5 @@
 -- Of two tasks one stands above the other; and a newcomer in its place keeps the order of priority.
-use Rattle.std.proofs.Common.{◌≡◌, Bool, true, false, ◌&&◌, List, [], ◌∷◌, refl, arith}
+use Rattle.std.proofs.Common.{◌≡◌, true, false, ◌&&◌, List, [], ◌∷◌, refl, arith}
 use Rattle.std.proofs.lemmas.Bool.{cond_both, and_from, and_parts, le-leb, leb-false}
 use Rattle.tasks.specs.declared.task.Task.{Task}
 use Rattle.tasks.specs.Priority.{stands_above, by_priority, joined}
