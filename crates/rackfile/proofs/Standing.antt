@@ -6,8 +6,9 @@ use Rattle.std.proofs.lemmas.Bool.{and_parts, and_from, cond-false, ltb-false, l
 use Rattle.preferences.specs.declared.policy.Policy.{Policy}
 use Rattle.rackfile.specs.declared.fault.RecordFault.{RecordFault}
 use Rattle.rackfile.specs.declared.fault.FileFault.{FileFault}
+use Rattle.rackfile.specs.Reading.{too_long}
 use Rattle.rackfile.specs.Records.{Seen, admits, withdraws, next, read_record}
-use Rattle.rackfile.specs.Files.{File, policy_named, header_fault, count_in, read_records, too_long, with_records, with_header, reading}
+use Rattle.rackfile.specs.Files.{File, policy_named, header_fault, count_in, read_records, with_records, with_header, reading}
 use Rattle.rackfile.specs.Format.{header_bytes, record_bytes, records_bytes, record_allowed, all_allowed, all_placed, Stands}
 use Rattle.rackfile.specs.Exact.{AreBytes, ReadsWhatStands, OneFile, NotBoth}
 use Rattle.rackfile.proofs.Undoing.{Went, next_ok, cond-right, cond-wrong}
@@ -61,8 +62,8 @@ stands input f b e =
     last : (p : Policy) → policy_named (get_or input 5 0) ≡ Some p → header_fault (length input) input ≡ None → (run : Result (List Seen × List ℕ) RecordFault) → read_records (length input) (count_in input) (drop 9 input) ≡ run → with_records (length input) (Some p) (get_or input 6 0) run ≡ Ok f → length input ≤ 65536 → Stands input f
     last p named_by right (Err g) run h short = let z : ◌≡◌ {A = ℕ} 0 1 = cc in absurd (omega arith)
     last p named_by right (Ok x) run h short =
-        let d = cond-right (eqb (length x.1) 0) (Ok (record { policy = p; m = get_or input 6 0; records = x.0 })) _ f h in
-        let same = file_back (record { policy = p; m = get_or input 6 0; records = x.0 }) f d.1 in
+        let d = cond-right (eqb (length x.1) 0) (Ok (record { policy = p; processors = get_or input 6 0; records = x.0 })) _ f h in
+        let same = file_back (record { policy = p; processors = get_or input 6 0; records = x.0 }) f d.1 in
         let top = header_back (length input) input p b right named_by in
         let nothing = nil_from_length x.1 (eqb-true (length x.1) 0 d.0) in
         let rs = records_back (length input) 9 (count_in input) (drop 9 input) x.0 x.1 (omega (arith, length-drop 9 input, top.long)) top.rest run in
@@ -108,7 +109,7 @@ records_read whole at (v ∷ vs) r a p here = go (records_read whole (at + lengt
 pub reads : (input : List ℕ) (f : File) → Stands input f → reading input ≡ Ok f
 reads input f s =
     let p = f.policy in
-    let m = f.m in
+    let m = f.processors in
     let vs = f.records in
     let top = header_bytes p m (length vs) in
     let body = records_bytes vs in
