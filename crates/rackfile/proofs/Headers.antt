@@ -4,8 +4,8 @@ use Rattle.std.proofs.lemmas.List.Elements.{All-drop}
 use Rattle.std.proofs.lemmas.Bool.{and_parts, cond-false, ltb-false, le-ltb, eqb-true, not-false, not_from_true, cases_Bool}
 use Rattle.preferences.specs.declared.policy.Policy.{Policy}
 use Rattle.preferences.specs.declared.policy.Policy.TheVariants.{First, Best, Worst}
-use Rattle.preferences.specs.Policies.{letter_of}
-use Rattle.rackfile.specs.Files.{is_mark, is_version, policy_named, processors_allowed, header_fault, count_in}
+use Rattle.preferences.specs.Policies.{letter_of, policy_named}
+use Rattle.rackfile.specs.Files.{is_mark, is_version, processors_allowed, header_fault, count_in}
 use Rattle.rackfile.specs.Format.{header_bytes}
 use Rattle.rackfile.specs.Exact.{AreBytes}
 use Rattle.rackfile.proofs.Undoing.{cond-none}

@@ -3,14 +3,14 @@ use Rattle.std.proofs.Common.{◌≡◌, ℕ, suc, ◌+◌, ◌-◌, ◌*◌, �
 use Rattle.std.proofs.lemmas.List.{length-append, take_at, drop_at}
 use Rattle.std.proofs.lemmas.Iterator.Adapters.{position_from-zero}
 use Rattle.std.specs.List.{list_all, position_from}
-use Rattle.std.proofs.lemmas.Bool.{not_from_true, and_parts, and_from, cond-true, cond-false, le-leb, ltb-true, ltb-false, lt-ltb, le-ltb, eqb-true, eq-eqb, cases_Bool}
+use Rattle.std.proofs.lemmas.Bool.{not_from_true, and_parts, and_from, cond-true, cond-false, le-leb, ltb-true, lt-ltb, eqb-true, eq-eqb, cases_Bool}
 use Rattle.rackfile.specs.declared.fault.RecordFault.{RecordFault}
 use Rattle.rackfile.specs.declared.fault.RecordFault.TheVariants.{Bytes, Tag, Label}
 use Rattle.rackfile.specs.Reading.{place_in, field, take_byte, take_word, take_part}
 use Rattle.rackfile.specs.Records.{Seen, admits, withdraws, printable, first_bad, length_allowed, then, next, judged, read_text, read_label, read_admission, read_withdrawal, read_record}
 use Rattle.rackfile.specs.Format.{word, record_bytes, record_allowed, all_placed}
 use Rattle.rackfile.specs.Exact.{AreBytes}
-use Rattle.rackfile.proofs.Undoing.{then_ok, next_ok, field_ok, cond-right, cond-wrong, byte_back, word_back, part_back}
+use Rattle.rackfile.proofs.Undoing.{then_ok, next_ok, field_ok, cond-right, byte_back, word_back, part_back}
 
 -- what was read of a label stood there
 pub record LabelBack (whole : ℕ) (s l : List ℕ) (place : ℕ) (r : List ℕ) : Type 0 where

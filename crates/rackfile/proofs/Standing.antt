@@ -4,11 +4,12 @@ use Rattle.std.proofs.lemmas.List.{append_assoc, append-nil, length-append, leng
 use Rattle.std.proofs.lemmas.List.Elements.{All-from_get_or}
 use Rattle.std.proofs.lemmas.Bool.{and_parts, and_from, cond-false, ltb-false, le-ltb, eqb-true}
 use Rattle.preferences.specs.declared.policy.Policy.{Policy}
+use Rattle.preferences.specs.Policies.{policy_named}
 use Rattle.rackfile.specs.declared.fault.RecordFault.{RecordFault}
 use Rattle.rackfile.specs.declared.fault.FileFault.{FileFault}
 use Rattle.rackfile.specs.Reading.{too_long}
 use Rattle.rackfile.specs.Records.{Seen, admits, withdraws, next, read_record}
-use Rattle.rackfile.specs.Files.{File, policy_named, header_fault, count_in, read_records, with_records, with_header, reading}
+use Rattle.rackfile.specs.Files.{File, header_fault, count_in, read_records, with_records, with_header, reading}
 use Rattle.rackfile.specs.Format.{header_bytes, record_bytes, records_bytes, record_allowed, all_allowed, all_placed, Stands}
 use Rattle.rackfile.specs.Exact.{AreBytes, ReadsWhatStands, OneFile, NotBoth}
 use Rattle.rackfile.proofs.Undoing.{Went, next_ok, cond-right, cond-wrong}

@@ -2,8 +2,7 @@
 use Rattle.std.specs.Prelude.{◌≡◌, ℕ, zero, suc, ◌+◌, ◌*◌, Bool, cond, not, ◌&&◌, List, [], ◌∷◌, map, length, drop, is_some, Some, None, Ok, Err, vec_items, Option, Result, Vec, ◌==◌, nat_le, nat_lt, slice_index}
 use Rattle.std.specs.declared.alloc.Global.{Global}
 use Rattle.preferences.specs.declared.policy.Policy.{Policy}
-use Rattle.preferences.specs.declared.policy.Policy.TheVariants.{First, Best, Worst}
-use Rattle.preferences.specs.Policies.{letter_of}
+use Rattle.preferences.specs.Policies.{policy_named}
 use Rattle.rackfile.specs.declared.fault.BytesFault.TheVariants.{TooLong, Cut, Trailing}
 use Rattle.rackfile.specs.declared.fault.RecordFault.{RecordFault}
 use Rattle.rackfile.specs.declared.fault.RecordFault.TheVariants.{Bytes}
@@ -25,10 +24,6 @@ is_mark a b c = a == 82 && (b == 65 && c == 75)
 -- version 1
 abbrev pub is_version : ℕ → ℕ → Bool
 is_version high low = high * 256 + low == 1
-
--- the policy of a letter
-abbrev pub policy_named : ℕ → Option Policy
-policy_named c = cond (c == letter_of First) (Some First) (cond (c == letter_of Best) (Some Best) (cond (c == letter_of Worst) (Some Worst) None))
 
 -- a rack has 1 to 16 processors
 abbrev pub processors_allowed : ℕ → Bool

@@ -74,6 +74,7 @@ impl From<BytesFault> for FileFault {
     }
 }
 
+// Each by a match: the variants carry places and lower faults, so their numbers are no discriminants.
 impl FileFault {
     /// The layer that found the fault.
     pub fn layer(&self) -> Layer

@@ -4,7 +4,7 @@ ghost use Rattle.std.specs.declared.alloc.AllocError.{AllocError};
 ghost use Rattle.rackfile.specs.declared.fault.RecordFault.TheVariants.{Bytes};
 ghost use Rattle.rackfile.specs.declared.fault.FileFault.TheVariants.{Record};
 ghost use Rattle.rackfile.specs.declared.file.ReadError.TheVariants.{Fault, Memory};
-ghost use Rattle.rackfile.specs.Files.{is_mark, is_version, policy_named, processors_allowed, header_fault, ReadsHeader, ReadsRecords, read_records};
+ghost use Rattle.rackfile.specs.Files.{is_mark, is_version, processors_allowed, header_fault, ReadsHeader, ReadsRecords, read_records};
 ghost use Rattle.rackfile.specs.Exact.{FileRead};
 
 use crate::bytes::Reader;
@@ -15,7 +15,7 @@ use preferences::Policy;
 use std::alloc::{AllocError, AllocFailed, Global};
 
 /// What a file says: the policy, the number of processors, and the records in their order.
-#[derive(Drop)]
+#[derive(Debug, PartialEq, Eq, Drop)]
 pub struct RackFile<'a> {
     pub policy: Policy,
     pub processors: u8,
@@ -23,7 +23,7 @@ pub struct RackFile<'a> {
 }
 
 /// Why no file was read: something is wrong with it, or there is no memory for its records.
-#[derive(Clone, Copy, PartialEq, Eq)]
+#[derive(Clone, Copy, Debug, PartialEq, Eq)]
 pub enum ReadError {
     Fault(FileFault),
     Memory(AllocError),
@@ -89,18 +89,6 @@ fn has_version(high: u8, low: u8) -> bool
     u16::from_be_bytes([high, low]) == 1
 }
 
-// The policy of a letter.
-fn policy_named_by(letter: char) -> Option<Policy>
-    ensures { result ≡ policy_named letter }
-{
-    match letter {
-        'F' => Some(Policy::First),
-        'B' => Some(Policy::Best),
-        'W' => Some(Policy::Worst),
-        _ => None,
-    }
-}
-
 // Whether a rack may have so many processors.
 fn is_rack_size(n: u8) -> bool
     ensures { result ≡ processors_allowed n }
@@ -136,7 +124,7 @@ fn short_fault(whole: usize, s: &[u8]) -> FileFault
     if s.len() < 6 {
         return cut;
     }
-    if policy_named_by(s[5] as char).is_none() {
+    if Policy::try_from(char::from(s[5])).is_err() {
         return FileFault::Policy;
     }
     if s.len() < 7 {
@@ -152,7 +140,19 @@ fn short_fault(whole: usize, s: &[u8]) -> FileFault
 fn read_header(reader: &mut Reader<'_>) -> Result<Header, FileFault>
     ensures { ReadsHeader reader.old reader.new result }
 {
-    let [r, a, k, high, low, letter, processors, more, less, rest @ ..] = reader.left else {
+    let [
+        r,
+        a,
+        k,
+        high,
+        low,
+        letter,
+        processors,
+        more,
+        less,
+        rest @ ..,
+    ] = reader.left
+    else {
         return Err(short_fault(reader.whole, reader.left));
     };
     if !has_mark(*r, *a, *k) {
@@ -161,7 +161,7 @@ fn read_header(reader: &mut Reader<'_>) -> Result<Header, FileFault>
     if !has_version(*high, *low) {
         return Err(FileFault::Version);
     }
-    let Some(policy) = policy_named_by(*letter as char) else {
+    let Ok(policy) = Policy::try_from(char::from(*letter)) else {
         return Err(FileFault::Policy);
     };
     if !is_rack_size(*processors) {
@@ -176,7 +176,11 @@ fn read_header(reader: &mut Reader<'_>) -> Result<Header, FileFault>
 }
 
 // So many records.
-fn read_records<'a>(alloc: Global, reader: &mut Reader<'a>, count: u16) -> Result<Vec<Record<'a>>, ReadError>
+fn read_records<'a>(
+    alloc: Global,
+    reader: &mut Reader<'a>,
+    count: u16,
+) -> Result<Vec<Record<'a>>, ReadError>
     ensures { ReadsRecords reader.old reader.new result (read_records reader.old.whole count reader.old.left.now) }
 {
     let mut all = Vec::new(alloc);

@@ -11,4 +11,6 @@ mod theorems;
 pub use fault::{BytesFault, FileFault, Layer, RecordFault};
 pub use file::{RackFile, ReadError, read_file};
 pub use record::Record;
-pub use theorems::{every_file_has_bytes, faults_differ, labels_are_there, not_both, one_file, reads_what_stands};
+pub use theorems::{
+    every_file_has_bytes, faults_differ, labels_are_there, not_both, one_file, reads_what_stands,
+};

@@ -5,35 +5,29 @@ ghost use Rattle.rackfile.specs.Exact.{ReadsWhatStands, OneFile, NotBoth, EveryF
 /// No two faults have the same number and place.
 pub fn faults_differ()
     ensures { FaultsDiffer }
-{
-}
+{}
 
 /// Bytes are read as a file exactly when they stand for it.
 pub fn reads_what_stands()
     ensures { ReadsWhatStands }
-{
-}
+{}
 
 /// No bytes stand for two files.
 pub fn one_file()
     ensures { OneFile }
-{
-}
+{}
 
 /// None stand for a file and have a fault.
 pub fn not_both()
     ensures { NotBoth }
-{
-}
+{}
 
 /// Every file within the limits has bytes.
 pub fn every_file_has_bytes()
     ensures { EveryFileHasBytes }
-{
-}
+{}
 
 /// A record's label is that part of the input.
 pub fn labels_are_there()
     ensures { LabelsAreThere }
-{
-}
+{}

@@ -1,4 +1,4 @@
-use Rattle.std.proofs.Common.{◌≡◌, ℕ, suc, ◌+◌, ◌-◌, List, map, Err, vec_items, sym, refl, ap, ◌∙◌, subst, arith}
+use Rattle.std.proofs.Common.{◌≡◌, suc, ◌+◌, ◌-◌, List, map, Err, vec_items, sym, refl, ap, ◌∙◌, subst, arith}
 use Rattle.std.proofs.lemmas.List.{map_push}
 use Rattle.std.proofs.lemmas.Result.{err_from_is_err_and}
 use Rattle.rackfile.specs.Records.{Seen, seen_as, read_record}
@@ -30,8 +30,7 @@ loop-i-preserved c =
     let k = c.args.count - (c.loop-i._i + 1) in
     let n : c.args.count - c.loop-i._i ≡ suc k = omega arith in
     let one = ap (λ w. read_record w left) (sym c.loop-i.invariant.1) ∙ c.in_ok-one.ensures.0 in
-    let viewed = ap (map seen_as) c.in_ok-push.ensures.items ∙ map_push seen_as ys c.in_ok-one.one in
-    (
+    let viewed = ap (map seen_as) c.in_ok-push.ensures.items ∙ map_push seen_as ys c.in_ok-one.one in (
       c.loop-i.invariant.0 ∙ ap (λ j. prepend xs (read_records whole j left)) n ∙ run_more whole k left rest v xs one ∙ sym (ap (λ (l : List Seen). prepend l (read_records whole k rest)) viewed),
       c.in_ok-one.ensures.1 ∙ c.loop-i.invariant.1,
     )
