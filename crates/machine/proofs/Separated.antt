@@ -178,18 +178,6 @@ near_fits (x ∷ ts) t e l =
     let b = limits x w.0 in
     and_from (ltb (t + x.period.0) (2 ^ 32)) (deadlines_fit ts t) (lt-ltb (t + x.period.0) (2 ^ 32) (omega (arith, b.period_to))) (near_fits ts t w.1 l)
 
--- one turn of the loop over the tasks
-
-module _ (ts : List Task) (i : ℕ) (inv : all_within (drop i ts) ≡ all_within ts) where
-  pub within_stop : i < length ts → false ≡ within_limits (get_or ts i no_task) → false ≡ all_within ts
-  within_stop l e = ap (λ b. b && all_within (drop (i + 1) ts)) e ∙ sym (at_drop_more all_within ts i no_task l) ∙ inv
-
-  pub within_more : i < length ts → true ≡ within_limits (get_or ts i no_task) → all_within (drop (i + 1) ts) ≡ all_within ts
-  within_more l e = ap (λ b. b && all_within (drop (i + 1) ts)) e ∙ sym (at_drop_more all_within ts i no_task l) ∙ inv
-
-  pub within_all : length ts ≤ i → true ≡ all_within ts
-  within_all l = sym (at_drop_all all_within ts i l) ∙ inv
-
 -- one turn of the loop over the releases
 
 module _ (ts : List Task) (h last : ℕ) (free : List Ticks) (rs : List Release) (i : ℕ) (inv : lawful_after ts h last free (drop i rs) ≡ lawful ts h rs) where

@@ -92,20 +92,20 @@ missed_some t k [] p Idle e d n = d
 missed_some t k [] p (Waiting l x) e d n = let z : ◌≡◌ {A = ℕ} 0 1 = cc in omega arith
 missed_some t k (Idle ∷ ss) zero Idle e d n = d
 missed_some t k (Idle ∷ ss) zero (Waiting l x) e d n = let z : ◌≡◌ {A = ℕ} 0 1 = cc in omega arith
-missed_some t k (Idle ∷ ss) (suc p) s e d n = missed_some t (suc k) ss p s e d n
+missed_some t k (Idle ∷ ss) (suc p) s e d n = missed_some t (k + 1) ss p s e d n
 missed_some t k (Waiting l x ∷ ss) zero s e d n =
     let now : x.0 ≡ t = subst (DueAt t) (sym e) d in
-    let m = ap (λ b. cond b (Some k) (first_missed t (suc k) ss)) (eq-eqb x.0 t now) in
+    let m = ap (λ b. cond b (Some k) (first_missed t (k + 1) ss)) (eq-eqb x.0 t now) in
     let z : ◌≡◌ {A = ℕ} 0 1 = cc in
     omega arith
-missed_some t k (Waiting l x ∷ ss) (suc p) s e d n = go (eqb x.0 t) refl (missed_some t (suc k) ss p s e d)
+missed_some t k (Waiting l x ∷ ss) (suc p) s e d n = go (eqb x.0 t) refl (missed_some t (k + 1) ss p s e d)
   where
-    go : (b : Bool) → eqb x.0 t ≡ b → (first_missed t (suc k) ss ≡ None → ⊥) → ⊥
+    go : (b : Bool) → eqb x.0 t ≡ b → (first_missed t (k + 1) ss ≡ None → ⊥) → ⊥
     go true q ih =
-        let m = ap (λ b. cond b (Some k) (first_missed t (suc k) ss)) q in
+        let m = ap (λ b. cond b (Some k) (first_missed t (k + 1) ss)) q in
         let z : ◌≡◌ {A = ℕ} 0 1 = cc in
         omega arith
-    go false q ih = ih (sym (ap (λ b. cond b (Some k) (first_missed t (suc k) ss)) q) ∙ n)
+    go false q ih = ih (sym (ap (λ b. cond b (Some k) (first_missed t (k + 1) ss)) q) ∙ n)
 
 -- a run from the states of an instant
 

@@ -1,4 +1,4 @@
-// What a rehearsal looks at before it runs.
+// What a plan is looked over for.
 ghost use Rattle.std.specs.Prelude.{◌≡◌, ◌+◌, ◌^◌, ◌<◌, ◌≤◌, true, ◌&&◌, length, nat_le, nat_lt};
 ghost use Rattle.tasks.specs.Limits.{all_within};
 ghost use Rattle.machine.specs.Lawful.{lawful};
@@ -8,22 +8,22 @@ ghost use Rattle.machine.specs.Separation.{may_come};
 use crate::state::Release;
 use tasks::{Task, Ticks};
 
-// Whether there are at most 33 tasks.
-fn few(count: usize) -> bool
+// Whether there may be so many tasks: at most 33.
+fn is_task_count(count: usize) -> bool
     ensures { result ≡ nat_le count 33 }
 {
     count <= 33
 }
 
-// Whether there are at most 65,536 releases.
-fn short(count: usize) -> bool
+// Whether there may be so many releases: at most 65,536.
+fn is_release_count(count: usize) -> bool
     ensures { result ≡ nat_le count 65536 }
 {
     count <= 65_536
 }
 
 // Whether the horizon is at most 2,000,000 ticks.
-pub(crate) fn near(horizon: Ticks) -> bool
+pub(crate) fn is_near(horizon: Ticks) -> bool
     ensures { result ≡ horizon_allowed horizon.0 }
 {
     horizon.0 <= 2_000_000
@@ -33,19 +33,14 @@ pub(crate) fn near(horizon: Ticks) -> bool
 fn keep_limits(tasks: &[Task]) -> bool
     ensures { result ≡ all_within tasks.now }
 {
-    for task in tasks {
-        if !task.keeps_limits() {
-            return false;
-        }
-    }
-    true
+    tasks.iter().all(|task| task.keeps_limits())
 }
 
 // Whether the tasks may be rehearsed.
 pub(crate) fn can_run(tasks: &[Task]) -> bool
     ensures { result ≡ tasks_allowed tasks.now }
 {
-    few(tasks.len()) && keep_limits(tasks)
+    is_task_count(tasks.len()) && keep_limits(tasks)
 }
 
 // Whether the release's place exists, and its instant is below the horizon.
@@ -98,5 +93,5 @@ pub(crate) fn can_come(tasks: &[Task], horizon: Ticks, releases: &[Release]) -> 
     requires near { horizon_allowed horizon.0 ≡ true }
     ensures { result ≡ releases_allowed tasks.now horizon.0 releases.now }
 {
-    short(releases.len()) && is_lawful(tasks, horizon, releases)
+    is_release_count(releases.len()) && is_lawful(tasks, horizon, releases)
 }

@@ -1,7 +1,7 @@
 // One task: its own state, matched together with what happens to it.
 ghost use Rattle.std.specs.Prelude.{◌≡◌, ◌+◌, ◌^◌, ◌<◌, if◌then◌else◌, nat_eq};
-ghost use Rattle.machine.specs.Events.{after, late, given_tick, fresh};
-ghost use Rattle.machine.specs.Machine.{worked};
+ghost use Rattle.machine.specs.Events.{after, given_tick, fresh};
+ghost use Rattle.machine.specs.Machine.{late, worked};
 
 use crate::state::State;
 use tasks::{Speed, Task, Ticks, Units};
@@ -91,19 +91,15 @@ pub(crate) fn misses(state: State, instant: Ticks) -> bool
     ensures { result ≡ late instant.0 state }
 {
     let (_, mark) = react(state, Event::Deadline { instant });
-    match mark {
-        Mark::Missed => true,
-        Mark::Quiet | Mark::Busy => false,
-    }
+    matches!(mark, Mark::Missed)
 }
 
 // The task after it is given the tick: none where it does not wait.
 pub(crate) fn work_on(state: State) -> Option<State>
     ensures { result ≡ given_tick state }
 {
-    let (next, mark) = react(state, Event::Run);
-    match mark {
-        Mark::Busy => Some(next),
-        Mark::Quiet | Mark::Missed => None,
+    match react(state, Event::Run) {
+        (next, Mark::Busy) => Some(next),
+        (_, Mark::Quiet | Mark::Missed) => None,
     }
 }

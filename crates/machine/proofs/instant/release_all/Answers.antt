@@ -4,13 +4,13 @@ use Rattle.std.proofs.lemmas.Bool.{and_parts, ltb-true}
 use Rattle.machine.specs.Machine.{with_releases}
 use Rattle.machine.specs.Cursor.{no_release}
 use Rattle.machine.proofs.Coming.{with_none, any_comes, any_stays, fits_at}
-use Rattle.machine.proofs.moment.release_all.Goals as goal
-use Rattle.machine.proofs.moment.release_all.Goals.{then-comes, else-comes}
+use Rattle.machine.proofs.instant.release_all.Goals as goal
+use Rattle.machine.proofs.instant.release_all.Goals.{then-is_due, else-is_due}
 
 pub with_job-requires : goal.with_job-requires
 with_job-requires c =
     let r = get_or c.args.releases.now c.loop-release.release-index no_release in
-    let w = and_parts (eqb r.instant.0 c.args.instant.0) (ltb r.place (length c.args.tasks.now)) (sym c.if-comes.ensures) in
+    let w = and_parts (eqb r.instant.0 c.args.instant.0) (ltb r.place (length c.args.tasks.now)) (sym c.if-is_due.ensures) in
     fits_at c.args.tasks.now c.args.instant.0 r.place c.requires.fits (ltb-true r.place (length c.args.tasks.now) w.1)
 
 pub loop-release-init : goal.loop-release-init
@@ -22,11 +22,11 @@ loop-release-preserved c =
     let rs = c.args.releases.now in
     let i = c.loop-release.release-index in
     let ss = c.loop-release.states in
-    elim c.if-comes.branch [
-      | then-comes w ↦
+    elim c.if-is_due.branch [
+      | then-is_due w ↦
           w.states-is ∙ ap (set ss (get_or rs i no_release).place) w.with_job.ensures
-          ∙ any_comes ts rs c.args.instant.0 c.args.states.now c.requires.sizes i c.loop-release-test.true ss c.loop-release.invariant w.if-comes.ensures
-      | else-comes w ↦ w.states-is ∙ any_stays ts rs c.args.instant.0 c.args.states.now c.requires.sizes i c.loop-release-test.true ss c.loop-release.invariant w.if-comes.ensures
+          ∙ any_comes ts rs c.args.instant.0 c.args.states.now c.requires.sizes i c.loop-release-test.true ss c.loop-release.invariant w.if-is_due.ensures
+      | else-is_due w ↦ w.states-is ∙ any_stays ts rs c.args.instant.0 c.args.states.now c.requires.sizes i c.loop-release-test.true ss c.loop-release.invariant w.if-is_due.ensures
     ]
 
 pub returns : goal.returns
