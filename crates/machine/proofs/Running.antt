@@ -1,13 +1,13 @@
 -- What is left of a run gives the whole run.
-use Rattle.std.proofs.Common.{◌≡◌, ℕ, suc, ◌+◌, ◌-◌, ◌<◌, ◌≤◌, true, leb, List, [], ◌∷◌, length, take, replicate, Some, None, Option, sym, refl, ap, ◌∙◌, add-one, arith}
-use Rattle.std.proofs.lemmas.List.{take-replicate, length-take-le}
+use Rattle.std.proofs.Common.{◌≡◌, ℕ, suc, ◌+◌, ◌-◌, ◌<◌, ◌≤◌, true, leb, List, [], ◌∷◌, length, take, replicate, Some, sym, ap, ◌∙◌, add-one, arith}
+use Rattle.std.proofs.lemmas.List.{take-replicate}
 use Rattle.std.proofs.lemmas.Bool.{and_parts, leb-true}
 use Rattle.tasks.specs.declared.task.Task.{Task}
 use Rattle.tasks.specs.Limits.{all_within}
 use Rattle.machine.specs.declared.state.State.{State}
 use Rattle.machine.specs.declared.state.State.TheVariants.{Idle, Waiting}
 use Rattle.machine.specs.declared.state.Release.{Release}
-use Rattle.machine.specs.Machine.{first_missed, busy_tick, served, with_releases, at_instant, missed, went, run, outcome, ended}
+use Rattle.machine.specs.Machine.{busy_tick, at_instant, missed, went, run, outcome, ended}
 use Rattle.machine.specs.Lawful.{lawful}
 use Rattle.machine.specs.Refusals.{tasks_allowed, releases_allowed}
 

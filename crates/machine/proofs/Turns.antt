@@ -1,9 +1,9 @@
 -- What one turn of each loop over the states keeps.
-use Rattle.std.proofs.Common.{◌≡◌, ℕ, suc, ◌+◌, ◌<◌, ◌≤◌, Bool, true, false, cond, eqb, List, [], ◌∷◌, ◌++◌, length, get_or, take, drop, set, Some, None, Option, sym, refl, ap, ◌∙◌, add-one, arith}
-use Rattle.std.proofs.lemmas.List.{at_drop_more, at_drop_all, append_assoc, take_more, drop_all, set_split, append-nil, take_all}
+use Rattle.std.proofs.Common.{◌≡◌, ℕ, ◌+◌, ◌<◌, ◌≤◌, List, [], ◌∷◌, ◌++◌, length, get_or, take, drop, set, Some, None, sym, refl, ap, ◌∙◌, add-one, arith}
+use Rattle.std.proofs.lemmas.List.{at_drop_more, append_assoc, take_more, drop_all, set_split, append-nil, take_all}
 use Rattle.machine.specs.declared.state.State.{State}
 use Rattle.machine.specs.declared.state.State.TheVariants.{Idle, Waiting}
-use Rattle.machine.specs.Machine.{first_missed, served, busy_tick, worked}
+use Rattle.machine.specs.Machine.{served, busy_tick, worked}
 use Rattle.machine.specs.Events.{given_tick}
 
 -- the states below i are as they were, and the first waiting task stands from i on

@@ -1,5 +1,5 @@
 -- One instant, as the code answers it.
-use Rattle.std.specs.Prelude.{◌≡◌, ℕ, ◌+◌, ◌^◌, Bool, true, false, ◌&&◌, List, [], ◌∷◌, length, Some, None, Option, ◌==◌, nat_lt}
+use Rattle.std.specs.Prelude.{◌≡◌, ℕ, ◌+◌, ◌^◌, Bool, true, false, ◌&&◌, List, length, Some, None, Option, ◌==◌, nat_lt}
 use Rattle.std.specs.List.{list_all}
 use Rattle.tasks.specs.declared.task.Task.{Task}
 use Rattle.machine.specs.declared.state.Release.{Release}

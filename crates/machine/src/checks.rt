@@ -6,7 +6,7 @@ ghost use Rattle.machine.specs.Refusals.{tasks_allowed, horizon_allowed, release
 ghost use Rattle.machine.specs.Separation.{may_come};
 
 use crate::state::Release;
-use tasks::{Task, Ticks};
+use tasks::{Task, Ticks, all_keep_limits};
 
 // Whether there may be so many tasks: at most 33.
 fn is_task_count(count: usize) -> bool
@@ -29,32 +29,25 @@ pub(crate) fn is_near(horizon: Ticks) -> bool
     horizon.0 <= 2_000_000
 }
 
-// Whether each task keeps its limits.
-fn keep_limits(tasks: &[Task]) -> bool
-    ensures { result ≡ all_within tasks.now }
-{
-    tasks.iter().all(|task| task.keeps_limits())
-}
-
 // Whether the tasks may be rehearsed.
 pub(crate) fn can_run(tasks: &[Task]) -> bool
     ensures { result ≡ tasks_allowed tasks.now }
 {
-    is_task_count(tasks.len()) && keep_limits(tasks)
+    is_task_count(tasks.len()) && all_keep_limits(tasks)
 }
 
 // Whether the release's place exists, and its instant is below the horizon.
 fn is_inside(release: &Release, count: usize, horizon: Ticks) -> bool
     ensures { result ≡ (nat_lt release.now.place count && nat_lt release.now.instant.0 horizon.0) }
 {
-    release.place < count && release.instant.0 < horizon.0
+    release.place < count && release.instant < horizon
 }
 
 // Whether the release is not before the last one, nor before its own place is free again.
 fn comes_in_time(release: &Release, last: Ticks, free: Ticks) -> bool
     ensures { result ≡ may_come last.0 free.0 release.now }
 {
-    last.0 <= release.instant.0 && free.0 <= release.instant.0
+    last <= release.instant && free <= release.instant
 }
 
 // When a place that is released at an instant may be released again.

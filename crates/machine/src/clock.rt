@@ -31,7 +31,7 @@ impl Clock {
     pub(crate) fn is_below(self, horizon: Ticks) -> bool
         ensures { result ≡ nat_lt self.instant.0 horizon.0 }
     {
-        self.instant.0 < horizon.0
+        self.instant < horizon
     }
 
     // After an instant the instant rises by one.

@@ -27,7 +27,7 @@ fn after_tick(left: Units, deadline: Ticks) -> State
     ensures { result ≡ worked left deadline }
 {
     let done = Speed::one().units_in(Ticks(1));
-    if left.0 <= done.0 {
+    if left <= done {
         State::Idle
     } else {
         State::Waiting {
@@ -41,7 +41,7 @@ fn after_tick(left: Units, deadline: Ticks) -> State
 fn at_deadline(deadline: Ticks, instant: Ticks) -> Mark
     ensures { result ≡ (if nat_eq deadline.0 instant.0 then Mark.Missed else Mark.Quiet) }
 {
-    if deadline.0 == instant.0 {
+    if deadline == instant {
         Mark::Missed
     } else {
         Mark::Quiet

@@ -18,7 +18,7 @@ pub(crate) fn first_missed(states: &[State], instant: Ticks) -> Option<usize>
 fn is_now(release: &Release, instant: Ticks) -> bool
     ensures { result ≡ is_now instant.0 release.now }
 {
-    release.instant.0 == instant.0
+    release.instant == instant
 }
 
 // How many releases from the front on are now.
@@ -42,7 +42,7 @@ pub(crate) fn releases_now<'a>(releases: &'a [Release], instant: Ticks) -> &'a [
 fn is_due(release: &Release, instant: Ticks, count: usize) -> bool
     ensures { result ≡ (release.now.instant.0 == instant.0 && nat_lt release.now.place count) }
 {
-    release.instant.0 == instant.0 && release.place < count
+    release.instant == instant && release.place < count
 }
 
 // The releases that are now come to their tasks, wherever they stand in the list.

@@ -8,7 +8,7 @@ use crate::state::Release;
 use tasks::{Task, Ticks};
 
 /// Tasks, in the order in which they stand, a horizon and releases, of which nothing is to be refused.
-#[derive(Clone, Copy)]
+#[derive(Clone, Copy, Debug, PartialEq, Eq)]
 pub struct Plan<'a> {
     pub(crate) tasks: &'a [Task],
     pub(crate) horizon: Ticks,

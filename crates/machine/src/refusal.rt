@@ -22,5 +22,4 @@ impl Refusal {
 /// No two refusals have one number.
 pub fn refusal_numbers_differ()
     ensures { NumbersDiffer }
-{
-}
+{}
