@@ -1,5 +1,5 @@
 -- Releases that come one by one, and the cursor over them.
-use Rattle.std.proofs.Common.{◌≡◌, ℕ, zero, suc, ◌+◌, ◌-◌, ◌^◌, ◌<◌, ◌≤◌, Bool, true, false, cond, ◌&&◌, ◌||◌, eqb, ltb, List, [], ◌∷◌, ◌++◌, length, get_or, take, drop, take_while, set, sym, refl, ap, ◌∙◌, inl, inr, add-zero, zero-add, arith}
+use Rattle.std.proofs.Common.{◌≡◌, ℕ, zero, suc, ◌+◌, ◌-◌, ◌^◌, ◌<◌, ◌≤◌, Bool, true, false, cond, ◌&&◌, ◌||◌, eqb, ltb, List, [], ◌∷◌, ◌++◌, length, get_or, Some, None, take, drop, take_while, set, sym, refl, ap, ◌∙◌, inl, inr, add-zero, zero-add, arith}
 use Rattle.std.proofs.lemmas.List.{take_more, take-append-drop, length-take-le, length-drop, length-set, get_or-take, get_or-drop, get_or-set_same, get_or-set_other, ext_get_or}
 use Rattle.std.proofs.lemmas.Bool.{and_parts, and_cases, and_left, and_right, or_right, ltb-true, ltb-false, eqb-true, eqb-false, eq-eqb, ne_eqb, cases_eq, cases_lt, cond-true}
 use Rattle.tasks.specs.declared.task.Task.{Task}
@@ -7,7 +7,7 @@ use Rattle.tasks.specs.Demand.{no_task}
 use Rattle.machine.specs.declared.state.State.{State}
 use Rattle.machine.specs.declared.state.State.TheVariants.{Idle}
 use Rattle.machine.specs.declared.state.Release.{Release}
-use Rattle.machine.specs.Machine.{due, with_releases}
+use Rattle.machine.specs.Machine.{due, with_releases, first_missed, busy_tick, served, at_instant, missed, went}
 use Rattle.machine.specs.Events.{fresh}
 use Rattle.machine.specs.Cursor.{Cursor, Orderly, no_release}
 use Rattle.machine.specs.Moments.{is_now, deadline_fits, deadlines_fit}
@@ -148,8 +148,11 @@ module _ (ts : List Task) (rs : List Release) (t i : ℕ) (o : Orderly ts rs) (c
       sym (or_false (due (take count left) p t)) ∙ ap (λ b. due (take count left) p t || b) (sym (none_behind p)) ∙ sym (due_append (take count left) (drop count left) p t)
       ∙ ap (λ l. due l p t) (take-append-drop count left) ∙ ap (λ b. b || due left p t) (sym (none_before p)) ∙ sym (due_append (take i rs) left p t) ∙ ap (λ l. due l p t) (take-append-drop i rs)
 
-  pub with_now : (ss : List State) → with_releases (take_while (is_now t) left) t 0 ts ss ≡ with_releases rs t 0 ts ss
+  with_now : (ss : List State) → with_releases (take_while (is_now t) left) t 0 ts ss ≡ with_releases rs t 0 ts ss
   with_now ss = with_same (take_while (is_now t) left) rs t 0 ts ss due_now
+
+  pub instant_now : (ss : List State) → at_instant ts (take_while (is_now t) left) t ss ≡ at_instant ts rs t ss
+  instant_now ss = ap (λ ready. elim (first_missed t 0 ss) [ Some place ↦ missed place | None ↦ went (busy_tick ready) (served ready) ]) (with_now ss)
 
   pub cursor_on : Cursor rs (i + length (take_while (is_now t) left)) (t + 1)
   cursor_on =

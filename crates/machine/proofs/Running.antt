@@ -1,5 +1,5 @@
 -- What is left of a run gives the whole run.
-use Rattle.std.proofs.Common.{◌≡◌, ℕ, suc, ◌+◌, ◌-◌, ◌<◌, ◌≤◌, true, leb, List, [], ◌∷◌, length, take, replicate, Some, sym, ap, ◌∙◌, add-one, arith}
+use Rattle.std.proofs.Common.{◌≡◌, ℕ, suc, ◌+◌, ◌-◌, ◌<◌, ◌≤◌, true, leb, List, [], ◌∷◌, length, take, replicate, Some, None, Option, sym, refl, ap, ◌∙◌, add-one, arith}
 use Rattle.std.proofs.lemmas.List.{take-replicate}
 use Rattle.std.proofs.lemmas.Bool.{and_parts, leb-true}
 use Rattle.tasks.specs.declared.task.Task.{Task}
@@ -7,7 +7,7 @@ use Rattle.tasks.specs.Limits.{all_within}
 use Rattle.machine.specs.declared.state.State.{State}
 use Rattle.machine.specs.declared.state.State.TheVariants.{Idle, Waiting}
 use Rattle.machine.specs.declared.state.Release.{Release}
-use Rattle.machine.specs.Machine.{busy_tick, at_instant, missed, went, run, outcome, ended}
+use Rattle.machine.specs.Machine.{first_missed, with_releases, served, busy_tick, at_instant, missed, went, run, outcome, ended}
 use Rattle.machine.specs.Lawful.{lawful}
 use Rattle.machine.specs.Refusals.{tasks_allowed, releases_allowed}
 
@@ -23,6 +23,19 @@ module _ (ts : List Task) (rs : List Release) where
 
   pub run_went : (more t busy : ℕ) (ss : List State) (b : ℕ) (next : List State) → went b next ≡ at_instant ts rs t ss → run ts rs (suc more) t busy ss ≡ run ts rs more (suc t) (busy + b) next
   run_went more t busy ss b next e = ap (λ s. elim s [ missed place ↦ ended (Some place) t busy | went b next ↦ run ts rs more (suc t) (busy + b) next ]) (sym e)
+
+  went_le : (t : ℕ) (ss : List State) (b : ℕ) (next : List State) (o : Option ℕ) → first_missed t 0 ss ≡ o → went b next ≡ at_instant ts rs t ss → b ≤ 1
+  went_le t ss b next (Some p) q e =
+      let m : at_instant ts rs t ss ≡ missed p = ap (λ o. elim o [ Some place ↦ missed place | None ↦ went (busy_tick (with_releases rs t 0 ts ss)) (served (with_releases rs t 0 ts ss)) ]) q in
+      let z : ◌≡◌ {A = ℕ} 0 1 = cc in
+      absurd (omega arith)
+  went_le t ss b next None q e =
+      let m : at_instant ts rs t ss ≡ went (busy_tick (with_releases rs t 0 ts ss)) (served (with_releases rs t 0 ts ss)) = ap (λ o. elim o [ Some place ↦ missed place | None ↦ went (busy_tick (with_releases rs t 0 ts ss)) (served (with_releases rs t 0 ts ss)) ]) q in
+      let z : b ≡ busy_tick (with_releases rs t 0 ts ss) = cc in
+      omega (arith, z, busy_le (with_releases rs t 0 ts ss))
+
+  pub went_few : (t : ℕ) (ss : List State) (b : ℕ) (next : List State) → went b next ≡ at_instant ts rs t ss → b ≤ 1
+  went_few t ss b next e = went_le t ss b next (first_missed t 0 ss) refl e
 
 -- what is left of a run is what the whole run comes to
 module _ (ts : List Task) (rs : List Release) (h t busy : ℕ) (ss : List State) (rest : run ts rs (h - t) t busy ss ≡ outcome ts h rs) (l : t < h) where

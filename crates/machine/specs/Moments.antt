@@ -7,12 +7,12 @@ use Rattle.machine.specs.declared.clock.Clock.{Clock}
 use Rattle.machine.specs.declared.state.State.{State}
 use Rattle.machine.specs.declared.state.Moment.{Moment}
 use Rattle.machine.specs.declared.state.Moment.TheVariants.{Missed, Went}
-use Rattle.machine.specs.Machine.{Step, missed, went, at_instant}
+use Rattle.machine.specs.Machine.{missed, went, at_instant}
 
--- the answer to an instant, with the states that it left, as a step of the machine
-abbrev pub step_of : Moment → List State → Step
-step_of (Missed place) ss = missed place
-step_of (Went busy) ss = went busy.0 ss
+-- what an instant comes to on the states `old`, which leaves `new`: a task has missed, and the states are as they were, or it went by
+abbrev pub Done : List Task → List Release → ℕ → (old new : List State) → Moment → Type 0
+Done ts rs instant old new (Missed place) = (at_instant ts rs instant old ≡ missed place) × (new ≡ old)
+Done ts rs instant old new (Went busy) = at_instant ts rs instant old ≡ went busy.0 new
 
 -- the clock of a run after an instant: as it was where a task has missed, else one tick on, with the busy ticks
 abbrev pub MovedOn : Moment → Clock → Clock → Type 0

@@ -1,10 +1,10 @@
 // The parts of one instant of the machine, over the states of all tasks.
 ghost use Rattle.std.specs.Prelude.{◌≡◌, true, length, ◌==◌, ◌&&◌, nat_lt, take_while};
 ghost use Rattle.machine.specs.Machine.{first_missed, with_releases, busy_tick, served};
-ghost use Rattle.machine.specs.Moments.{deadlines_fit, is_now};
+ghost use Rattle.machine.specs.Moments.{deadlines_fit, is_now, Done};
 
 use crate::event::{misses, with_job, work_on};
-use crate::state::{Release, State};
+use crate::state::{Moment, Release, State};
 use tasks::{Task, Ticks};
 
 // The first waiting task in the order that has its deadline now.
@@ -46,12 +46,7 @@ fn is_due(release: &Release, instant: Ticks, count: usize) -> bool
 }
 
 // The releases that are now come to their tasks, wherever they stand in the list.
-pub(crate) fn release_all(
-    tasks: &[Task],
-    releases: &[Release],
-    instant: Ticks,
-    states: &mut [State],
-)
+fn release_all(tasks: &[Task], releases: &[Release], instant: Ticks, states: &mut [State])
     requires sizes { length states.old ≡ length tasks.now }
     requires fits { deadlines_fit tasks.now instant.0 ≡ true }
     ensures { states.new ≡ with_releases releases.now instant.0 0 tasks.now states.old }
@@ -64,7 +59,7 @@ pub(crate) fn release_all(
 }
 
 // The first waiting task does its work of one tick; the busy ticks, 1 or 0.
-pub(crate) fn run_first(states: &mut [State]) -> Ticks
+fn run_first(states: &mut [State]) -> Ticks
     ensures states { states.new ≡ served states.old }
     ensures busy { result.0 ≡ busy_tick states.old }
 {
@@ -75,4 +70,23 @@ pub(crate) fn run_first(states: &mut [State]) -> Ticks
         }
     }
     Ticks(0)
+}
+
+// One instant below the horizon: first the deadlines, then the releases, then the work.
+pub(crate) fn one_instant(
+    tasks: &[Task],
+    releases: &[Release],
+    instant: Ticks,
+    states: &mut [State],
+) -> Moment
+    requires sizes { length states.old ≡ length tasks.now }
+    requires fits { deadlines_fit tasks.now instant.0 ≡ true }
+    ensures { Done tasks.now releases.now instant.0 states.old states.new result }
+{
+    if let Some(place) = first_missed(states, instant) {
+        return Moment::Missed(place);
+    }
+    release_all(tasks, releases, instant, states);
+    let busy = run_first(states);
+    Moment::Went(busy)
 }

@@ -2,7 +2,7 @@
 ghost use Rattle.std.specs.Prelude.{◌≡◌, ◌&&◌};
 ghost use Rattle.machine.specs.Moments.{deadline_fits, deadlines_fit, can_step, Stepped};
 
-use crate::instant::{first_missed, release_all, run_first};
+use crate::instant::one_instant;
 use crate::state::{Moment, Release, State};
 use tasks::{Task, Ticks};
 
@@ -40,10 +40,5 @@ pub fn step(
     if !can_step(tasks, instant, states) {
         return None;
     }
-    if let Some(place) = first_missed(states, instant) {
-        return Some(Moment::Missed(place));
-    }
-    release_all(tasks, releases, instant, states);
-    let busy = run_first(states);
-    Some(Moment::Went(busy))
+    Some(one_instant(tasks, releases, instant, states))
 }

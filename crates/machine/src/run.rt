@@ -3,7 +3,7 @@ ghost use Rattle.std.specs.Prelude.{◌≡◌, ◌<◌, ◌≤◌, length};
 ghost use Rattle.machine.specs.Cursor.{Cursor};
 
 use crate::clock::Clock;
-use crate::instant::{first_missed, release_all, releases_now, run_first};
+use crate::instant::{one_instant, releases_now};
 use crate::plan::Plan;
 use crate::state::{Moment, Outcome, State};
 
@@ -19,8 +19,7 @@ struct Run<'a> {
 }
 
 impl<'a> Run<'a> {
-    ghost use Rattle.machine.specs.Machine.{at_instant};
-    ghost use Rattle.machine.specs.Moments.{step_of, MovedOn};
+    ghost use Rattle.machine.specs.Moments.{Done, MovedOn};
 
     // A run begins at instant 0, before any release.
     fn start(plan: Plan<'a>) -> Run<'a>
@@ -35,24 +34,24 @@ impl<'a> Run<'a> {
         }
     }
 
-    // One instant below the horizon: first the deadlines, then the releases, then the work.
+    // One instant below the horizon, with the releases that are now.
     fn advance(&mut self, states: &mut [State]) -> Moment
         requires below { self.old.clock.instant.0 < self.old.plan.horizon.0 }
         requires sizes { length states.old ≡ length self.old.plan.tasks.now }
         ensures plan { self.new.plan ≡ self.old.plan }
         ensures clock { MovedOn result self.old.clock self.new.clock }
-        ensures step { step_of result states.new ≡ at_instant self.old.plan.tasks.now self.old.plan.releases.now self.old.clock.instant.0 states.old }
+        ensures step { Done self.old.plan.tasks.now self.old.plan.releases.now self.old.clock.instant.0 states.old states.new result }
     {
         let instant = self.clock.instant;
-        if let Some(place) = first_missed(states, instant) {
-            return Moment::Missed(place);
-        }
         let now = releases_now(&self.plan.releases[self.cursor..], instant);
-        release_all(self.plan.tasks, now, instant, states);
-        let busy = run_first(states);
-        self.cursor += now.len();
-        self.clock = self.clock.after(busy);
-        Moment::Went(busy)
+        match one_instant(self.plan.tasks, now, instant, states) {
+            Moment::Missed(place) => Moment::Missed(place),
+            Moment::Went(busy) => {
+                self.cursor += now.len();
+                self.clock = self.clock.after(busy);
+                Moment::Went(busy)
+            }
+        }
     }
 }
 

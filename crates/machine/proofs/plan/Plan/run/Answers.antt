@@ -21,7 +21,7 @@ pub returns-in-Missed : goal.returns-in-Missed
 returns-in-Missed c =
     let self = c.args.self.now in
     let t = c.loop-run.run.clock.instant.0 in
-    let step = subst (λ (p : Plan). missed c.in-Missed.place ≡ at_instant p.tasks.now p.releases.now t c.loop-run.states) c.loop-run.invariant.0 c.in-Missed.ensures.step in
+    let step = subst (λ (p : Plan). missed c.in-Missed.place ≡ at_instant p.tasks.now p.releases.now t c.loop-run.states) c.loop-run.invariant.0 (sym c.in-Missed.ensures.step.0) in
     c.ending.ensures ∙ ap (λ (k : Clock). ended (Some c.in-Missed.place) k.instant.0 k.busy.0) c.in-Missed.ensures.clock
     ∙ missed_ends self.tasks.now self.releases.now self.horizon.0 t c.loop-run.run.clock.busy.0 c.loop-run.states c.loop-run.invariant.2 (ltb-true t self.horizon.0 (sym c.loop-run-test.ensures)) c.in-Missed.place step
 
@@ -36,7 +36,7 @@ loop-run-preserved c =
     let next = c.advance.new.states in
     let b = c.in_default.field-0.0 in
     let moved = c.in_default.ensures.clock in
-    let step = subst (λ (p : Plan). went b next ≡ at_instant p.tasks.now p.releases.now old.instant.0 c.loop-run.states) c.loop-run.invariant.0 c.in_default.ensures.step in
+    let step = subst (λ (p : Plan). went b next ≡ at_instant p.tasks.now p.releases.now old.instant.0 c.loop-run.states) c.loop-run.invariant.0 (sym c.in_default.ensures.step) in
     let rest = went_on ts rs h old.instant.0 old.busy.0 c.loop-run.states c.loop-run.invariant.2 (ltb-true old.instant.0 h (sym c.loop-run-test.ensures)) b next step in
     let later = subst (λ i. run ts rs (h - i) i (old.busy.0 + b) next ≡ outcome ts h rs) (sym moved.0) rest in (
       c.in_default.ensures.plan ∙ c.loop-run.invariant.0,
