@@ -1,6 +1,7 @@
 // A task, its limits and its share.
-ghost use Rattle.std.specs.Prelude.{◌≡◌, ℕ, ◌+◌, ◌-◌, ◌/◌, ◌^◌, ◌<◌, ◌≤◌};
+ghost use Rattle.std.specs.Prelude.{◌≡◌, ◌≤◌};
 ghost use Rattle.tasks.specs.Limits.{period_allowed, work_allowed, within_limits, all_within};
+ghost use Rattle.tasks.specs.Rounding.{up};
 ghost use Rattle.tasks.specs.Share.{share_answer};
 ghost use Rattle.tasks.specs.Tasks.{task_of};
 
@@ -39,7 +40,7 @@ impl Task {
         ensures { result ≡ work_allowed self.now }
     {
         let most = Speed::one().units_in(self.period);
-        1 <= self.work.0 && self.work.0 <= most.0
+        Units(1) <= self.work && self.work <= most
     }
 
     /// Whether the task keeps the limits.
@@ -56,7 +57,7 @@ impl Task {
         if !self.keeps_limits() {
             return None;
         }
-        Some(over(self.work.0 * 1_000_000, self.period) as u32)
+        u32::try_from(over(self.work.0 * 1_000_000, self.period)).ok()
     }
 }
 
@@ -68,10 +69,10 @@ pub fn all_keep_limits(tasks: &[Task]) -> bool
 }
 
 // How often `period` goes into `n`, rounded up.
+#[tactic(auto, using(crate::proofs::Roundings::rounding))]
 pub(crate) fn over(n: u64, period: Ticks) -> u64
-    requires some { 1 ≤ period.0 }
-    requires fits { n + period.0 ≤ 2 ^ 64 }
-    ensures { result ≡ (n + (period.0 - 1)) / period.0 }
+    requires { 1 ≤ period.0 }
+    ensures { result ≡ up n period.0 }
 {
-    (n + (period.0 as u64 - 1)) / period.0 as u64
+    n.div_ceil(u64::from(period.0))
 }
