@@ -4,8 +4,8 @@
 mod any;
 mod judge;
 mod points;
+mod question;
 mod step_up;
-mod weighing;
 
 pub use any::AnyJudge;
 pub use judge::Judge;

@@ -1,10 +1,10 @@
 -- The laws of n / d, rounded up: the least number of times that d covers n.
-use Rattle.std.proofs.Common.{◌≡◌, ℕ, suc, ◌+◌, ◌-◌, ◌*◌, ◌/◌, ◌<◌, ◌≤◌, suc-mul, div-lt_iff_lt-mul, one-mul, le-div_iff_mul-le, zero-mul, inl, inr, arith}
-use native.Mathlib.Nat.{lt-div-mul-add}
-use Rattle.std.specs.Int.{div_ceil}
+use Rattle.std.proofs.Common.{◌≡◌, ℕ, suc, ◌+◌, ◌-◌, ◌*◌, ◌/◌, ◌<◌, ◌≤◌, suc-mul, div-lt_iff_lt-mul, one-mul, le-div_iff_mul-le, zero-mul, ◌%◌, ap, inl, inr, div-add-mod', mod-eq_of_lt, arith}
+use native.Mathlib.Nat.{lt-div-mul-add, mod_self}
+use Rattle.std.specs.Int.{div_ceil, next_multiple_of}
 use Rattle.std.proofs.lemmas.Bool.{cases_lt}
 use Rattle.std.proofs.lemmas.Grind.{div_ceil_times}
-use Rattle.std.proofs.lemmas.Nat.{mul-le}
+use Rattle.std.proofs.lemmas.Nat.{mul-le, mod_below}
 use Rattle.tasks.specs.Rounding.{up}
 
 pub up_covers : (n d : ℕ) → 1 ≤ d → n ≤ up n d * d
@@ -31,7 +31,24 @@ div_ceil-is-up n d h =
       | inr l ↦ omega (arith, least)
     ]
 
-pub ruleset rounding = (div_ceil-is-up)
+pub next_multiple_of-is-up : (n d : ℕ) → 1 ≤ d → next_multiple_of n d ≡ up n d * d
+next_multiple_of-is-up n d h =
+    let whole = div-add-mod' n d in
+    let count = div_ceil-is-up n d h in
+    let below = mod_below n d h in
+    elim (cases_lt 0 (n % d)) [
+      | inl l ↦
+          let e : up n d ≡ suc (n / d) = omega (arith, count) in
+          let gap : (d - n % d) % d ≡ d - n % d = mod-eq_of_lt (omega arith) in
+          omega (arith, whole, below, gap, suc-mul (n / d) d, ap (λ m. m * d) e)
+      | inr l ↦
+          let e : up n d ≡ n / d = omega (arith, count) in
+          let none : d - n % d ≡ d = omega arith in
+          let gap : (d - n % d) % d ≡ 0 = rw none (mod_self d) in
+          omega (arith, whole, gap, ap (λ m. m * d) e)
+    ]
+
+pub ruleset rounding = (div_ceil-is-up, next_multiple_of-is-up)
 
 pub up_more : (n d m : ℕ) → 1 ≤ d → m * d < n → m < up n d
 unfolding up

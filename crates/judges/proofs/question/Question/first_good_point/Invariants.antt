@@ -2,15 +2,15 @@ use Rattle.std.proofs.Common.{◌+◌, ◌-◌, ◌≤◌, take}
 use Rattle.tasks.proofs.Leasts.{NoneBelow}
 use Rattle.judges.specs.Meanings.{good_point}
 use Rattle.judges.proofs.Multiples.{NextPoint}
-use Rattle.judges.proofs.points.first_good_point.Given as goal
+use Rattle.judges.proofs.question.Question.first_good_point.Given as goal
 
 -- next is the first point from there on, of the task and of those passed so far
 abbrev pub invariant-loop-other : goal.invariant-loop-other
-invariant-loop-other l = NextPoint l.task (take l.other-index l.above) l.from.0 l.next.0
+invariant-loop-other l = NextPoint l.self.task (take l.other-index l.self.above.now) l.from.0 l.next.0
 
 -- no point below `from` is good
 abbrev pub invariant-points : goal.invariant-points
-invariant-points l = (1 ≤ l.from.0) × NoneBelow (good_point l.task l.above) l.from.0
+invariant-points l = (1 ≤ l.from.0) × NoneBelow (good_point l.self.task l.self.above.now) l.from.0
 
 abbrev pub decreases-points : goal.decreases-points
-decreases-points l = l.task.period.0 + 1 - l.from.0
+decreases-points l = l.self.task.period.0 + 1 - l.from.0

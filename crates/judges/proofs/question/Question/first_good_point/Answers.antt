@@ -13,7 +13,7 @@ use Rattle.judges.specs.Laws.{asked}
 use Rattle.judges.specs.Meanings.{good_point}
 use Rattle.judges.specs.Choosing.{asked_parts, choice_some, choice_none}
 use Rattle.judges.proofs.Multiples.{NextPoint, next_own, next_more}
-use Rattle.judges.proofs.points.first_good_point.Goals as goal
+use Rattle.judges.proofs.question.Question.first_good_point.Goals as goal
 
 -- a task above keeps the limits
 other : (x : Task) (above : List Task) (i : ℕ) → asked x above ≡ true → i < length above → Limits (get_or above i no_task)
@@ -28,29 +28,29 @@ none_before : (x : Task) (above : List Task) (from next : ℕ) → NextPoint x a
 none_before x above from next n h = none_further (good_point x above) from next h (λ u lo hi. and_left (point x above u) (good x above u) (n.none u lo hi))
 
 pub loop-other-init : goal.loop-other-init
-loop-other-init c = next_own c.args.task c.points.from.0 c.points.invariant.0 (ltb-false c.args.task.period.0 c.points.from.0 (sym c.if-is_past.ensures))
+loop-other-init c = next_own c.args.self.now.task c.points.from.0 c.points.invariant.0 (ltb-false c.args.self.now.task.period.0 c.points.from.0 (sym c.if-is_past.ensures))
 
 pub multiple_from-requires : goal.multiple_from-requires
 multiple_from-requires c =
-    let x = c.args.task in
-    let ys = c.args.above.now in
-    let o = other x ys c.loop-other.other-index c.requires c.loop-other-test.true in
+    let x = c.args.self.now.task in
+    let ys = c.args.self.now.above.now in
+    let o = other x ys c.loop-other.other-index c.args.self.now.asked c.loop-other-test.true in
     let l = ltb-false x.period.0 c.points.from.0 (sym c.if-is_past.ensures) in
-    record { some = o.period_from; short = o.period_to; near = omega (arith, l, (limits x (asked_parts x ys c.requires).own).period_to) }
+    record { some = o.period_from; short = o.period_to; near = omega (arith, l, (limits x (asked_parts x ys c.args.self.now.asked).own).period_to) }
 
 pub loop-other-preserved : goal.loop-other-preserved
 loop-other-preserved c =
-    let x = c.args.task in
-    let ys = c.args.above.now in
+    let x = c.args.self.now.task in
+    let ys = c.args.self.now.above.now in
     let i = c.loop-other.other-index in
-    let o = other x ys i c.requires c.loop-other-test.true in
+    let o = other x ys i c.args.self.now.asked c.loop-other-test.true in
     let e = c.earlier-next.ensures ∙ ap (λ m. min c.loop-other.next.0 m) c.multiple_from.ensures in
     subst (NextPoint x (take (i + 1) ys) c.points.from.0) (sym e) (next_more x ys i c.points.from.0 c.loop-other.next.0 c.loop-other-test.true c.points.invariant.0 o.period_from c.loop-other.invariant)
 
 pub points-preserved : goal.points-preserved
 points-preserved c =
-    let x = c.args.task in
-    let ys = c.args.above.now in
+    let x = c.args.self.now.task in
+    let ys = c.args.self.now.above.now in
     let n = passed x ys c.loop-other.other-index c.points.from.0 c.loop-other.next.0 c.loop-other-test.false c.loop-other.invariant in
     let w = c.in-NotBefore.ensures in (
       omega (arith, w.0),
@@ -59,30 +59,30 @@ points-preserved c =
 
 pub points-smaller : goal.points-smaller
 points-smaller c =
-    let l = ltb-false c.args.task.period.0 c.points.from.0 (sym c.if-is_past.ensures) in
+    let l = ltb-false c.args.self.now.task.period.0 c.points.from.0 (sym c.if-is_past.ensures) in
     omega (arith, l, c.in-NotBefore.ensures.0, c.loop-other.invariant.not_before)
 
 pub returns-then-is_past : goal.returns-then-is_past
 returns-then-is_past c =
-    let x = c.args.task in
-    let ys = c.args.above.now in
+    let x = c.args.self.now.task in
+    let ys = c.args.self.now.above.now in
     let l = ltb-true x.period.0 c.points.from.0 (sym c.if-is_past.ensures) in
-    choice_none good_point x ys c.requires (λ u a b. c.points.invariant.1 u a (omega arith))
+    choice_none good_point x ys c.args.self.now.asked (λ u a b. c.points.invariant.1 u a (omega arith))
 
 pub returns-in-Done : goal.returns-in-Done
 returns-in-Done c =
-    let x = c.args.task in
-    let ys = c.args.above.now in
+    let x = c.args.self.now.task in
+    let ys = c.args.self.now.above.now in
     let t = c.loop-other.next.0 in
     let n = passed x ys c.loop-other.other-index c.points.from.0 t c.loop-other-test.false c.loop-other.invariant in
     let p = point_parts x ys t n.is in
     let g = good_from x ys t (record { starts = p.starts; ends = p.ends; enough = c.in-Done.ensures }) in
-    choice_some good_point x ys c.requires t (record { from = p.starts; to = p.ends; passes = and_from (point x ys t) (good x ys t) n.is g; first = none_before x ys c.points.from.0 t n c.points.invariant.1 })
+    choice_some good_point x ys c.args.self.now.asked t (record { from = p.starts; to = p.ends; passes = and_from (point x ys t) (good x ys t) n.is g; first = none_before x ys c.points.from.0 t n c.points.invariant.1 })
 
 pub returns-in-Never : goal.returns-in-Never
 returns-in-Never c =
-    let x = c.args.task in
-    let ys = c.args.above.now in
+    let x = c.args.self.now.task in
+    let ys = c.args.self.now.above.now in
     let t = c.loop-other.next.0 in
     let n = passed x ys c.loop-other.other-index c.points.from.0 t c.loop-other-test.false c.loop-other.invariant in
-    choice_none good_point x ys c.requires (none_further (good_point x ys) t (suc x.period.0) (none_before x ys c.points.from.0 t n c.points.invariant.1) (λ u lo hi. and_right (point x ys u) (good x ys u) (c.in-Never.ensures u lo)))
+    choice_none good_point x ys c.args.self.now.asked (none_further (good_point x ys) t (suc x.period.0) (none_before x ys c.points.from.0 t n c.points.invariant.1) (λ u lo hi. and_right (point x ys u) (good x ys u) (c.in-Never.ensures u lo)))
