@@ -3,8 +3,8 @@ ghost use Rattle.std.specs.Prelude.{◌≡◌};
 ghost use Rattle.judges.specs.Kinds.{meaning_of, laws_of};
 
 use crate::judge::Judge;
-use crate::points::Points as PointsJudge;
-use crate::step_up::StepUp as StepUpJudge;
+use crate::points::Points;
+use crate::step_up::StepUp;
 use tasks::{Task, Ticks};
 
 /// One of the two judges.
@@ -21,8 +21,8 @@ impl Judge for AnyJudge {
 
     fn ask(&mut self, task: Task, above: &[Task]) -> Option<Ticks> {
         match *self {
-            AnyJudge::Points => PointsJudge.ask(task, above),
-            AnyJudge::StepUp => StepUpJudge.ask(task, above),
+            AnyJudge::Points => Points.ask(task, above),
+            AnyJudge::StepUp => StepUp.ask(task, above),
         }
     }
 }

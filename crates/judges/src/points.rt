@@ -9,7 +9,7 @@ use crate::question::{Question, Weighed};
 use tasks::{Task, Ticks};
 
 /// Tries the scheduling points from the least up, and gives the first good one.
-#[derive(Clone, Copy)]
+#[derive(Clone, Copy, Debug, PartialEq, Eq)]
 pub struct Points;
 
 impl Judge for Points {

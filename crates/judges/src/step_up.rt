@@ -8,7 +8,7 @@ use crate::question::{Question, Weighed};
 use tasks::{Task, Ticks};
 
 /// Starts at the sum of all the works and puts the demand there in its place, until it stands still or passes the period.
-#[derive(Clone, Copy)]
+#[derive(Clone, Copy, Debug, PartialEq, Eq)]
 pub struct StepUp;
 
 impl Judge for StepUp {

@@ -44,10 +44,9 @@ pub struct UnknownLetter(pub char);
 impl TryFrom<char> for Policy {
     type Error = UnknownLetter;
 
-    /// The policy of a letter.
-    fn try_from(letter: char) -> Result<Policy, UnknownLetter>
-        ensures { result ≡ ok_or (policy_named letter) (record { 0 = letter }) }
-    {
+    ghost try_from_gives = { λ letter r. r ≡ ok_or (policy_named letter) (record { 0 = letter }) };
+
+    fn try_from(letter: char) -> Result<Policy, UnknownLetter> {
         match letter {
             'F' => Ok(Policy::First),
             'B' => Ok(Policy::Best),
