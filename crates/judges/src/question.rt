@@ -49,9 +49,7 @@ pub(crate) enum Weighed {
 impl<'a> Question<'a> {
     /// The question, where it may be asked.
     pub(crate) fn new(task: Task, above: &'a [Task]) -> Option<Question<'a>>
-        ensures {
-            MatchOption result (asked task above.now ≡ false) (λ question. (question.task ≡ task) × (question.above.now ≡ above.now))
-        }
+        ensures { MatchOption result (asked task above.now ≡ false) (λ question. (question.task ≡ task) × (question.above.now ≡ above.now)) }
     {
         if !may_be_asked(task, above) {
             return None;

@@ -9,7 +9,7 @@ use crate::units::{Speed, Ticks, Units};
 
 /// A cyclic task: each of its jobs asks for `work`, and two jobs are released at least `period` apart.
 /// Any numbers may stand in it: what answers for it says whether it keeps the limits.
-#[derive(Clone, Copy, Debug, PartialEq, Eq)]
+#[derive(Clone, Copy, Debug, Default, PartialEq, Eq)]
 pub struct Task {
     pub number: u32,
     pub work: Units,
