@@ -54,7 +54,7 @@ passes_parts false false true false b₅ b₆ h = absurd (none_is_no 5 (sym h))
 passes_parts false false true true b₅ b₆ h = (refl, refl, refl)
 
 -- one processor would take x, or the sheet has something to say of it
-module _ (mean : Meaning) (laws : JudgeLaws mean) (x : Task) (own : within_limits x ≡ true) (ss : List Seat) (held : Kept ss) where
+module _ (meaning : Meaning) (laws : JudgeLaws meaning) (x : Task) (own : within_limits x ≡ true) (ss : List Seat) (held : Kept ss) where
   abbrev all : List Task
   all = joined x (tasks_of ss)
 
@@ -64,27 +64,27 @@ module _ (mean : Meaning) (laws : JudgeLaws mean) (x : Task) (own : within_limit
   place_in : place ≤ length ss
   place_in = omega (arith, place_le x (tasks_of ss), length-tasks ss)
 
-  walk : (d k : ℕ) → k + d ≡ length ss + 1 → place ≤ k → ((j : ℕ) → place ≤ j → j < k → Given mean x ss j) → AllGiven mean x ss ⊎ ((n : ℕ) × FirstNone mean x ss n)
+  walk : (d k : ℕ) → k + d ≡ length ss + 1 → place ≤ k → ((j : ℕ) → place ≤ j → j < k → Given meaning x ss j) → AllGiven meaning x ss ⊎ ((n : ℕ) × FirstNone meaning x ss n)
   walk zero k e lo before = inl (λ j a b. before j a (omega arith))
   walk (suc d) k e lo before = ⊎_elim
-      (λ (s : Given mean x ss k). walk d (suc k) (omega arith) (omega arith) (λ j a b. ⊎_elim
-      (λ (lt : j < k). before j a lt) (λ (ge : k ≤ j). let same : k ≡ j = omega arith in subst (λ (i : ℕ). Given mean x ss i) same s) (cases_lt j k)))
-      (λ (u : said mean all k ≡ None). inr ((get_or all k no_task).number, record { at = k; below = lo; within = omega arith; none = u; number = refl; before = before }))
-      (some_or_none (said mean all k))
+      (λ (s : Given meaning x ss k). walk d (suc k) (omega arith) (omega arith) (λ j a b. ⊎_elim
+      (λ (lt : j < k). before j a lt) (λ (ge : k ≤ j). let same : k ≡ j = omega arith in subst (λ (i : ℕ). Given meaning x ss i) same s) (cases_lt j k)))
+      (λ (u : said meaning all k ≡ None). inr ((get_or all k no_task).number, record { at = k; below = lo; within = omega arith; none = u; number = refl; before = before }))
+      (some_or_none (said meaning all k))
 
   decide : WouldTake x ss ⊎ ((n : ℕ) × Entry x ss n)
   decide = ⊎_elim
       (λ (room : length ss < 32).
-      let d = takes_exactly mean laws x ss own held.0 held.1 room in
+      let d = takes_exactly meaning laws x ss own held.0 held.1 room in
       ⊎_elim
-      (λ (g : AllGiven mean x ss). inl (record { room = room; fits = d.given_fits g }))
-      (λ (f : (n : ℕ) × FirstNone mean x ss n). inr (f.0, inr (room, d.first_unfit f.0 f.1)))
+      (λ (g : AllGiven meaning x ss). inl (record { room = room; fits = d.given_fits g }))
+      (λ (f : (n : ℕ) × FirstNone meaning x ss n). inr (f.0, inr (room, d.first_unfit f.0 f.1)))
       (walk (length ss + 1 - place) place (omega (arith, place_in)) (omega arith) (λ j a b. absurd (omega arith))))
       (λ (full : 32 ≤ length ss). inr (0, inl (full, refl)))
       (cases_lt (length ss) 32)
 
-  is_given : WouldTake x ss → AllGiven mean x ss
-  is_given w = (takes_exactly mean laws x ss own held.0 held.1 w.room).fits_given w.fits
+  is_given : WouldTake x ss → AllGiven meaning x ss
+  is_given w = (takes_exactly meaning laws x ss own held.0 held.1 w.room).fits_given w.fits
 
   -- the seats from place k on
   inside : (d k : ℕ) → k + suc d ≡ length ss + 1 → k < length ss + 1
@@ -96,7 +96,7 @@ module _ (mean : Meaning) (laws : JudgeLaws mean) (x : Task) (own : within_limit
   lower : (k : ℕ) → place ≤ k → place ≤ suc k
   lower k lo = omega arith
 
-  module _ (g : AllGiven mean x ss) where
+  module _ (g : AllGiven meaning x ss) where
     abbrev below : (d k : ℕ) → k + d ≡ length ss + 1 → place ≤ k → List Seat
     below zero k e lo = []
     below (suc d) k e lo = record { task = get_or all k no_task; instant = (g k lo (inside d k e)).0 } ∷ below d (suc k) (next d k e) (lower k lo)
@@ -107,14 +107,14 @@ module _ (mean : Meaning) (laws : JudgeLaws mean) (x : Task) (own : within_limit
         ap (λ (l : List Task). get_or all k no_task ∷ l) (below_tasks d (suc k) (next d k e) (lower k lo))
         ∙ sym (drop-cons all k no_task (omega (arith, length-joined x (tasks_of ss), length-tasks ss)))
 
-    below_judged : (d k : ℕ) (e : k + d ≡ length ss + 1) (lo : place ≤ k) (j : ℕ) → j < d → said mean all (k + j) ≡ Some (get_or (below d k e lo) j no_seat).instant
+    below_judged : (d k : ℕ) (e : k + d ≡ length ss + 1) (lo : place ≤ k) (j : ℕ) → j < d → said meaning all (k + j) ≡ Some (get_or (below d k e lo) j no_seat).instant
     below_judged zero k e lo j h = absurd (omega arith)
     below_judged (suc d) k e lo zero h =
         let z : k + 0 ≡ k = omega arith in
-        ap (λ (i : ℕ). said mean all i) z ∙ (g k lo (inside d k e)).1
+        ap (λ (i : ℕ). said meaning all i) z ∙ (g k lo (inside d k e)).1
     below_judged (suc d) k e lo (suc j) h =
         let z : k + suc j ≡ suc k + j = omega arith in
-        ap (λ (i : ℕ). said mean all i) z ∙ below_judged d (suc k) (next d k e) (lower k lo) j (omega arith)
+        ap (λ (i : ℕ). said meaning all i) z ∙ below_judged d (suc k) (next d k e) (lower k lo) j (omega arith)
 
     whole : place + (length ss + 1 - place) ≡ length ss + 1
     whole = omega (arith, place_in)
@@ -125,7 +125,7 @@ module _ (mean : Meaning) (laws : JudgeLaws mean) (x : Task) (own : within_limit
     abbrev new : List Seat
     new = take place ss ++ below (length ss + 1 - place) place whole here
 
-    new_joins : Joins mean x ss new
+    new_joins : Joins meaning x ss new
     new_joins =
         let rest = below (length ss + 1 - place) place whole here in
         let front : length (take place ss) ≡ place = length-take-le place ss place_in in
@@ -137,16 +137,16 @@ module _ (mean : Meaning) (laws : JudgeLaws mean) (x : Task) (own : within_limit
           above = take_at (take place ss) rest place front;
           judged = λ k lo hi.
               let z : k ≡ place + (k - place) = omega arith in
-              ap (λ (i : ℕ). said mean all i) z ∙ below_judged (length ss + 1 - place) place whole here (k - place) (omega arith)
+              ap (λ (i : ℕ). said meaning all i) z ∙ below_judged (length ss + 1 - place) place whole here (k - place) (omega arith)
               ∙ ap (λ (s : Seat). Some s.instant) (sym (get_or-append_right (take place ss) rest place k no_seat front lo));
         }
 
-    own_instant : (t : Ticks) × (mean x (take place (tasks_of ss)) ≡ Some t)
+    own_instant : (t : Ticks) × (meaning x (take place (tasks_of ss)) ≡ Some t)
     own_instant =
         let s = g place here (omega (arith, place_in)) in (
           s.0,
-          ap (λ (y : Task). mean y (take place (tasks_of ss))) (sym (joined_here x (tasks_of ss)))
-              ∙ ap (λ (l : List Task). mean (get_or all place no_task) l) (sym (take-joined x (tasks_of ss) place here)) ∙ s.1,
+          ap (λ (y : Task). meaning y (take place (tasks_of ss))) (sym (joined_here x (tasks_of ss)))
+              ∙ ap (λ (l : List Task). meaning (get_or all place no_task) l) (sym (take-joined x (tasks_of ss) place here)) ∙ s.1,
         )
 
 refuses : (x : Task) (ss : List Seat) (n : ℕ) → Entry x ss n → WouldTake x ss → ⊥
@@ -154,7 +154,7 @@ refuses x ss n (inl full) w = omega (arith, full.0, w.room)
 refuses x ss n (inr f) w = f.1.unfit (w.fits f.1.at f.1.within)
 
 -- the preferred one of the first k, or what the sheet says of each
-module _ (mean : Meaning) (laws : JudgeLaws mean) (bef : Relation) (prefers : PreferenceLaws bef) (b : Lists) (held : (q : ℕ) → q < length b → Kept (on b q)) (x : Task) (own : within_limits x ≡ true) where
+module _ (meaning : Meaning) (laws : JudgeLaws meaning) (before : Relation) (prefers : PreferenceLaws before) (b : Lists) (held : (q : ℕ) → q < length b → Kept (on b q)) (x : Task) (own : within_limits x ≡ true) where
   abbrev AllRefuse : ℕ → Type 0
   AllRefuse k = (q : ℕ) → q < k → (n : ℕ) × Entry x (on b q) n
 
@@ -162,7 +162,7 @@ module _ (mean : Meaning) (laws : JudgeLaws mean) (bef : Relation) (prefers : Pr
     p : ℕ
     within : p < k
     takes : WouldTake x (on b p)
-    first : (q : ℕ) → q < k → (q ≡ p → ⊥) → WouldTake x (on b q) → bef (as_seen b p) (as_seen b q) ≡ true
+    first : (q : ℕ) → q < k → (q ≡ p → ⊥) → WouldTake x (on b q) → before (as_seen b p) (as_seen b q) ≡ true
 
   one_more : (k : ℕ) → AllRefuse k ⊎ FirstOf k → WouldTake x (on b k) ⊎ ((n : ℕ) × Entry x (on b k) n) → AllRefuse (suc k) ⊎ FirstOf (suc k)
   one_more k (inl none) (inr e) = inl (λ q lt. ⊎_elim (λ (l : q < k). none q l) (λ (ge : k ≤ q). let same : k ≡ q = omega arith in subst (λ (i : ℕ). (n : ℕ) × Entry x (on b i) n) same e) (cases_lt q k))
@@ -180,28 +180,28 @@ module _ (mean : Meaning) (laws : JudgeLaws mean) (bef : Relation) (prefers : Pr
         (λ (ge : k ≤ q). let same : q ≡ k = omega arith in absurd (refuses x (on b k) e.0 e.1 (subst (λ (i : ℕ). WouldTake x (on b i)) same v))) (cases_lt q k);
   })
   one_more k (inr f) (inl w) = ⊎_elim
-      (λ (new-first : bef (as_seen b k) (as_seen b f.p) ≡ true). inr (record {
+      (λ (new-first : before (as_seen b k) (as_seen b f.p) ≡ true). inr (record {
         p = k;
         within = omega arith;
         takes = w;
         first = λ q lt ne v. let l : q < k = omega arith in ⊎_elim
-            (λ (same : q ≡ f.p). subst (λ (i : ℕ). bef (as_seen b k) (as_seen b i) ≡ true) (sym same) new-first)
+            (λ (same : q ≡ f.p). subst (λ (i : ℕ). before (as_seen b k) (as_seen b i) ≡ true) (sym same) new-first)
             (λ (other : q ≡ f.p → ⊥). prefers.chains (as_seen b k) (as_seen b f.p) (as_seen b q) new-first (f.first q l other v)) (cases_eq q f.p);
       }))
-      (λ (old-first : bef (as_seen b k) (as_seen b f.p) ≡ false). inr (record {
+      (λ (old-first : before (as_seen b k) (as_seen b f.p) ≡ false). inr (record {
         p = f.p;
         within = omega (arith, f.within);
         takes = f.takes;
         first = λ q lt ne v. ⊎_elim (λ (l : q < k). f.first q l ne v)
             (λ (ge : k ≤ q). let same : k ≡ q = omega arith in
-            subst (λ (i : ℕ). bef (as_seen b f.p) (as_seen b i) ≡ true) same
+            subst (λ (i : ℕ). before (as_seen b f.p) (as_seen b i) ≡ true) same
             (prefers.one_of_two (as_seen b f.p) (as_seen b k) (λ (e : f.p ≡ k). omega (arith, f.within)) ∙ not_from_false _ old-first)) (cases_lt q k);
       }))
-      (cases_Bool (bef (as_seen b k) (as_seen b f.p)))
+      (cases_Bool (before (as_seen b k) (as_seen b f.p)))
 
   choose : (k : ℕ) → k ≤ length b → AllRefuse k ⊎ FirstOf k
   choose zero h = inl (λ q lt. absurd (omega arith))
-  choose (suc k) h = one_more k (choose k (omega arith)) (decide mean laws x own (on b k) (held k (omega arith)))
+  choose (suc k) h = one_more k (choose k (omega arith)) (decide meaning laws x own (on b k) (held k (omega arith)))
 
 -- the entries of the sheet
 record SheetOf (x : Task) (b : Lists) : Type 0 where
@@ -220,9 +220,9 @@ entries x (ss ∷ b) f = go (f zero (omega arith)) (entries x b (λ q h. f (suc 
         each_of zero h = n.1
         each_of (suc q) h = r.each q (omega arith)
 
-module _ (mean : Meaning) (laws : JudgeLaws mean) (bef : Relation) (prefers : PreferenceLaws bef) (b : Lists) (held : (q : ℕ) → q < length b → Kept (on b q)) (x : Task) (sheet : List ℕ) where
+module _ (meaning : Meaning) (laws : JudgeLaws meaning) (before : Relation) (prefers : PreferenceLaws before) (b : Lists) (held : (q : ℕ) → q < length b → Kept (on b q)) (x : Task) (sheet : List ℕ) where
   abbrev Answered : Type 0
-  Answered = (a : Result (ℕ × Ticks) AdmitRefusal) × (sheet' : List ℕ) × (b' : Lists) × Admits mean bef b x sheet a sheet' b'
+  Answered = (a : Result (ℕ × Ticks) AdmitRefusal) × (sheet' : List ℕ) × (b' : Lists) × Admits meaning before b x sheet a sheet' b'
 
   early : (n : ℕ) → earlier b x (length sheet) ≡ Some n → Answered
   early n h =
@@ -230,7 +230,7 @@ module _ (mean : Meaning) (laws : JudgeLaws mean) (bef : Relation) (prefers : Pr
       (Err e.0, sheet, b, inl (record { cause = h ∙ ap (λ (k : ℕ). Some k) (sym e.1); sheet_stays = refl; seats_stay = refl }))
 
   module _ (passes : earlier b x (length sheet) ≡ None) (own : within_limits x ≡ true) (long : length b ≤ length sheet) where
-    away : AllRefuse mean laws bef prefers b held x own (length b) → Answered
+    away : AllRefuse meaning laws before prefers b held x own (length b) → Answered
     away none =
         let r = entries x b none in
         let after = drop (length b) sheet in
@@ -251,12 +251,12 @@ module _ (mean : Meaning) (laws : JudgeLaws mean) (bef : Relation) (prefers : Pr
           ),
         )
 
-    taken : FirstOf mean laws bef prefers b held x own (length b) → Answered
+    taken : FirstOf meaning laws before prefers b held x own (length b) → Answered
     taken f =
         let p = f.p in
-        let g = is_given mean laws x own (on b p) (held p f.within) f.takes in
-        let l = new mean laws x own (on b p) (held p f.within) g in
-        let t = own_instant mean laws x own (on b p) (held p f.within) g in
+        let g = is_given meaning laws x own (on b p) (held p f.within) f.takes in
+        let l = new meaning laws x own (on b p) (held p f.within) g in
+        let t = own_instant meaning laws x own (on b p) (held p f.within) g in
         let same : get_or (set b p l) p [] ≡ l = get_or-set_same b p l [] f.within in (
           Ok (p, t.0),
           sheet,
@@ -265,14 +265,14 @@ module _ (mean : Meaning) (laws : JudgeLaws mean) (bef : Relation) (prefers : Pr
             passes = passes;
             preferred = record { there = f.within; takes = f.takes; first = f.first };
             instant = t.1;
-            joins = subst (λ (k : List Seat). Joins mean x (on b p) k) (sym same) (new_joins mean laws x own (on b p) (held p f.within) g);
+            joins = subst (λ (k : List Seat). Joins meaning x (on b p) k) (sym same) (new_joins meaning laws x own (on b p) (held p f.within) g);
             others = ap (λ (k : List Seat). set b p k) (sym same);
             sheet_stays = refl;
           },
         )
 
     served : Answered
-    served = ⊎_elim away taken (choose mean laws bef prefers b held x own (length b) (omega arith))
+    served = ⊎_elim away taken (choose meaning laws before prefers b held x own (length b) (omega arith))
 
   late : earlier b x (length sheet) ≡ None → Answered
   late h =
@@ -283,7 +283,7 @@ module _ (mean : Meaning) (laws : JudgeLaws mean) (bef : Relation) (prefers : Pr
   any_answer = ⊎_elim (λ (s : (n : ℕ) × (earlier b x (length sheet) ≡ Some n)). early s.0 s.1) late (some_or_none (earlier b x (length sheet)))
 
 pub admits_some : AdmitsSome
-admits_some mean laws bef prefers b held x sheet = any_answer mean laws bef prefers b held x sheet
+admits_some meaning laws before prefers b held x sheet = any_answer meaning laws before prefers b held x sheet
 
 -- a withdrawal
 record SpotIn (n : ℕ) (ss : List Seat) : Type 0 where

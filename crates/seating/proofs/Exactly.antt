@@ -26,7 +26,7 @@ pub some_or_none : {X : Type 0} (o : Option X) → ((x : X) × (o ≡ Some x)) �
 some_or_none (Some x) = inl (x, refl)
 some_or_none None = inr refl
 
-module _ (mean : Meaning) (laws : JudgeLaws mean) (x : Task) (ss : List Seat) (own : within_limits x ≡ true) (limits : all_within (tasks_of ss) ≡ true) (old : all_keep_good ss ≡ true) (room : length ss < 32) where
+module _ (meaning : Meaning) (laws : JudgeLaws meaning) (x : Task) (ss : List Seat) (own : within_limits x ≡ true) (limits : all_within (tasks_of ss) ≡ true) (old : all_keep_good ss ≡ true) (room : length ss < 32) where
   abbrev ts : List Task
   ts = tasks_of ss
 
@@ -56,18 +56,18 @@ module _ (mean : Meaning) (laws : JudgeLaws mean) (x : Task) (ss : List Seat) (o
             ∙ ap (λ (y : Task). good y (take k ts) t) (above_stays x ts k lt) ∙ each_keeps ss old k (omega arith),
       )
 
-  fits_said : (k : ℕ) → Given mean x ss k → FitsAt all k
+  fits_said : (k : ℕ) → Given meaning x ss k → FitsAt all k
   fits_said k g = (g.0.0, laws.sound (get_or all k no_task) (take k all) g.0 g.1)
 
-  unfit_none : (k : ℕ) → k < length all → said mean all k ≡ None → FitsAt all k → ⊥
+  unfit_none : (k : ℕ) → k < length all → said meaning all k ≡ None → FitsAt all k → ⊥
   unfit_none k h e f = both_ways _ (laws.complete (get_or all k no_task) (take k all) (may_ask k h) e f.0) f.1
 
-  decides : DecidesFit mean x ss
+  decides : DecidesFit meaning x ss
   decides = record {
     given_fits = λ w k h. ⊎_elim (λ (lt : k < place). fits_above k lt) (λ (ge : place ≤ k). fits_said k (w k ge (omega (arith, long)))) (cases_lt k place);
     fits_given = λ f k lo hi.
         let h : k < length all = omega (arith, long) in
-        ⊎_elim (λ (s : Given mean x ss k). s) (λ (e : said mean all k ≡ None). absurd (unfit_none k h e (f k h))) (some_or_none (said mean all k));
+        ⊎_elim (λ (s : Given meaning x ss k). s) (λ (e : said meaning all k ≡ None). absurd (unfit_none k h e (f k h))) (some_or_none (said meaning all k));
     first_unfit = λ n u. record {
       at = u.at;
       within = omega (arith, u.within, long);
@@ -78,4 +78,4 @@ module _ (mean : Meaning) (laws : JudgeLaws mean) (x : Task) (ss : List Seat) (o
   }
 
 pub takes_exactly : TakesExactly
-takes_exactly mean laws x ss own limits old room = decides mean laws x ss own limits old room
+takes_exactly meaning laws x ss own limits old room = decides meaning laws x ss own limits old room

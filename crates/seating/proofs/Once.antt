@@ -59,7 +59,7 @@ one_error : (a₁ a₂ : Result (ℕ × Ticks) AdmitRefusal) (e d : AdmitRefusal
 unfolding admitted
 one_error a₁ a₂ e d p q n = p ∙ ap (λ (r : Refused). Err (admitted r)) (numbers_differ (Admitting e) (Admitting d) n) ∙ sym q
 
-module _ (mean : Meaning) (x : Task) (ss : List Seat) where
+module _ (meaning : Meaning) (x : Task) (ss : List Seat) where
   first_unfit_once : (ts : List Task) (m n : ℕ) → FirstUnfit ts m → FirstUnfit ts n → m ≡ n
   first_unfit_once ts m n f g =
       ⊎_elim
@@ -75,11 +75,11 @@ module _ (mean : Meaning) (x : Task) (ss : List Seat) where
   entry_once m n (inr p) (inl q) = absurd (omega (arith, p.0, q.0))
   entry_once m n (inr p) (inr q) = first_unfit_once (joined x (tasks_of ss)) m n p.1 q.1
 
-  long_joined : (new : List Seat) → Joins mean x ss new → length new ≡ length ss + 1
+  long_joined : (new : List Seat) → Joins meaning x ss new → length new ≡ length ss + 1
   long_joined new j =
       omega (arith, length-tasks new, length-tasks ss, ap (length {A = Task}) j.tasks, length-joined x (tasks_of ss))
 
-  joined_once : (n₁ n₂ : List Seat) → Joins mean x ss n₁ → Joins mean x ss n₂ → n₁ ≡ n₂
+  joined_once : (n₁ n₂ : List Seat) → Joins meaning x ss n₁ → Joins meaning x ss n₂ → n₁ ≡ n₂
   joined_once n₁ n₂ j₁ j₂ =
       let l₁ = long_joined n₁ j₁ in
       let l₂ = long_joined n₂ j₂ in
@@ -95,9 +95,9 @@ module _ (mean : Meaning) (x : Task) (ss : List Seat) where
       same_seat (get_or n₁ k no_seat) (get_or n₂ k no_seat) (sym t₁ ∙ ts ∙ t₂) (cc))
       (cases_lt k place))
 
-module _ (mean : Meaning) (bef : Relation) (laws : PreferenceLaws bef) (b : Lists) (x : Task) (sheet : List ℕ) where
+module _ (meaning : Meaning) (before : Relation) (laws : PreferenceLaws before) (b : Lists) (x : Task) (sheet : List ℕ) where
   abbrev Grant : Result (ℕ × Ticks) AdmitRefusal → List ℕ → Lists → Type 0
-  Grant a s b' = (o : ℕ × Ticks) × (a ≡ Ok o) × Granted mean bef b x sheet o.0 o.1 s b'
+  Grant a s b' = (o : ℕ × Ticks) × (a ≡ Ok o) × Granted meaning before b x sheet o.0 o.1 s b'
 
   abbrev Turned : Result (ℕ × Ticks) AdmitRefusal → List ℕ → Lists → Type 0
   Turned a s b' = (e : AdmitRefusal) × (a ≡ Err e) × (number_of (Admitting e) ≡ 8) × TurnedAway b x sheet s b'
@@ -105,32 +105,32 @@ module _ (mean : Meaning) (bef : Relation) (laws : PreferenceLaws bef) (b : List
   abbrev Early : Result (ℕ × Ticks) AdmitRefusal → List ℕ → Lists → Type 0
   Early a s b' = (e : AdmitRefusal) × (a ≡ Err e) × RefusedEarly b x (number_of (Admitting e)) sheet s b'
 
-  split : (a : Result (ℕ × Ticks) AdmitRefusal) (s : List ℕ) (b' : Lists) → Admits mean bef b x sheet a s b' → Grant a s b' ⊎ (Turned a s b' ⊎ Early a s b')
+  split : (a : Result (ℕ × Ticks) AdmitRefusal) (s : List ℕ) (b' : Lists) → Admits meaning before b x sheet a s b' → Grant a s b' ⊎ (Turned a s b' ⊎ Early a s b')
   split (Ok o) s b' h = inl (o, refl, h)
   split (Err e) s b' (inl h) = inr (inr (e, refl, h))
   split (Err e) s b' (inr h) = inr (inl (e, refl, h.0, h.1))
 
-  same_taker : (p q : ℕ) (t u : Ticks) (s₁ s₂ : List ℕ) (b₁ b₂ : Lists) → Granted mean bef b x sheet p t s₁ b₁ → Granted mean bef b x sheet q u s₂ b₂ → p ≡ q
+  same_taker : (p q : ℕ) (t u : Ticks) (s₁ s₂ : List ℕ) (b₁ b₂ : Lists) → Granted meaning before b x sheet p t s₁ b₁ → Granted meaning before b x sheet q u s₂ b₂ → p ≡ q
   same_taker p q t u s₁ s₂ b₁ b₂ f g =
       ⊎_elim (λ (e : p ≡ q). e)
       (λ (ne : p ≡ q → ⊥).
       let a = f.preferred.first q g.preferred.there (λ e. ne (sym e)) g.preferred.takes in
       let c = g.preferred.first p f.preferred.there ne f.preferred.takes in
-      absurd (both_ways (bef (as_seen b p) (as_seen b q)) (laws.one_of_two (as_seen b p) (as_seen b q) ne ∙ not_from_true _ c) a))
+      absurd (both_ways (before (as_seen b p) (as_seen b q)) (laws.one_of_two (as_seen b p) (as_seen b q) ne ∙ not_from_true _ c) a))
       (cases_eq p q)
 
-  grants_once : (p q : ℕ) (t u : Ticks) (s₁ s₂ : List ℕ) (b₁ b₂ : Lists) → p ≡ q → Granted mean bef b x sheet p t s₁ b₁ → Granted mean bef b x sheet q u s₂ b₂ → (t ≡ u) × (s₁ ≡ s₂) × (b₁ ≡ b₂)
+  grants_once : (p q : ℕ) (t u : Ticks) (s₁ s₂ : List ℕ) (b₁ b₂ : Lists) → p ≡ q → Granted meaning before b x sheet p t s₁ b₁ → Granted meaning before b x sheet q u s₂ b₂ → (t ≡ u) × (s₁ ≡ s₂) × (b₁ ≡ b₂)
   grants_once p q t u s₁ s₂ b₁ b₂ e f g₀ =
-      let g : Granted mean bef b x sheet p u s₂ b₂ = subst (λ (k : ℕ). Granted mean bef b x sheet k u s₂ b₂) (sym e) g₀ in
+      let g : Granted meaning before b x sheet p u s₂ b₂ = subst (λ (k : ℕ). Granted meaning before b x sheet k u s₂ b₂) (sym e) g₀ in
       let i₁ = f.instant in
       let i₂ = g.instant in
-      let n = joined_once mean x (get_or b p []) (get_or b₁ p []) (get_or b₂ p []) f.joins g.joins in
+      let n = joined_once meaning x (get_or b p []) (get_or b₁ p []) (get_or b₂ p []) f.joins g.joins in
       (cc, f.sheet_stays ∙ sym g.sheet_stays, f.others ∙ ap (λ (l : List Seat). set b p l) n ∙ sym g.others)
 
   sheets_once : (s₁ s₂ : List ℕ) (b₁ b₂ : Lists) → TurnedAway b x sheet s₁ b₁ → TurnedAway b x sheet s₂ b₂ → s₁ ≡ s₂
   sheets_once s₁ s₂ b₁ b₂ f g =
       ext_get_or 0 s₁ s₂ (f.as_long ∙ sym g.as_long) (λ k h. ⊎_elim
-      (λ (lt : k < length b). entry_once mean x (get_or b k []) (get_or s₁ k 0) (get_or s₂ k 0) (f.entries k lt) (g.entries k lt))
+      (λ (lt : k < length b). entry_once meaning x (get_or b k []) (get_or s₁ k 0) (get_or s₂ k 0) (f.entries k lt) (g.entries k lt))
       (λ (ge : length b ≤ k).
       let m = length b in
       let e : m + (k - m) ≡ k = omega arith in
@@ -159,5 +159,5 @@ module _ (mean : Meaning) (bef : Relation) (laws : PreferenceLaws bef) (b : List
       (one_error a₁ a₂ f.0 g.0 f.1 g.1 same, f.2.sheet_stays ∙ sym g.2.sheet_stays, f.2.seats_stay ∙ sym g.2.seats_stay)
 
 pub admits_once : AdmitsOnce
-admits_once mean bef laws b x sheet a₁ a₂ s₁ s₂ b₁ b₂ h k =
-    once mean bef laws b x sheet a₁ a₂ s₁ s₂ b₁ b₂ (split mean bef laws b x sheet a₁ s₁ b₁ h) (split mean bef laws b x sheet a₂ s₂ b₂ k)
+admits_once meaning before laws b x sheet a₁ a₂ s₁ s₂ b₁ b₂ h k =
+    once meaning before laws b x sheet a₁ a₂ s₁ s₂ b₁ b₂ (split meaning before laws b x sheet a₁ s₁ b₁ h) (split meaning before laws b x sheet a₂ s₂ b₂ k)

@@ -22,12 +22,15 @@ pub record NotThere (b : Lists) (p : ℕ) (refusal : ℕ) : Type 0 where
   pub cause : length b ≤ p
   pub refused : refusal ≡ 10
 
+-- what is asked about processor p is v
+abbrev pub Told : {A : Type 0} → Lists → ℕ → A → Result A QuestionRefusal → Type 0
+Told b p v (Ok a) = (p < length b) × (a ≡ v)
+Told b p v (Err e) = NotThere b p (number_of (Asking e))
+
 -- the load of processor p is the sum of its tasks' shares
 abbrev pub Loads : Lists → ℕ → Result ℕ QuestionRefusal → Type 0
-Loads b p (Ok l) = (p < length b) × (l ≡ load_of (tasks_of (get_or b p [])))
-Loads b p (Err e) = NotThere b p (number_of (Asking e))
+Loads b p a = Told b p (load_of (tasks_of (get_or b p []))) a
 
 -- the seats of processor p
 abbrev pub Shows : Lists → ℕ → Result (List Seat) QuestionRefusal → Type 0
-Shows b p (Ok ss) = (p < length b) × (ss ≡ get_or b p [])
-Shows b p (Err e) = NotThere b p (number_of (Asking e))
+Shows b p a = Told b p (get_or b p []) a
