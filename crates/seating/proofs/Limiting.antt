@@ -15,19 +15,13 @@ use Rattle.seating.proofs.Placing.{joined_at_place}
 
 pub within_joined : (x : Task) (ts : List Task) → within_limits x ≡ true → all_within ts ≡ true → all_within (joined x ts) ≡ true
 within_joined x [] h k = and_from (within_limits x) true h refl
-within_joined x (y ∷ ys) h k =
-    let a = and_parts (within_limits y) (all_within ys) k in
-    cond_both (stands_above y x) (y ∷ joined x ys) (x ∷ (y ∷ ys)) (λ l. all_within l ≡ true)
-    (λ _. and_from (within_limits y) (all_within (joined x ys)) a.0 (within_joined x ys h a.1))
-    (λ _. and_from (within_limits x) (all_within (y ∷ ys)) h k)
+within_joined x (y ∷ ys) h k = grind (arith, within_joined x ys)
 
 pub within_removed : (ts : List Task) (i : ℕ) → all_within ts ≡ true → all_within (remove ts i) ≡ true
 within_removed [] zero k = refl
 within_removed [] (suc i) k = refl
-within_removed (y ∷ ys) zero k = (and_parts (within_limits y) (all_within ys) k).1
-within_removed (y ∷ ys) (suc i) k =
-    let a = and_parts (within_limits y) (all_within ys) k in
-    and_from (within_limits y) (all_within (remove ys i)) a.0 (within_removed ys i a.1)
+within_removed (y ∷ ys) zero k = grind arith
+within_removed (y ∷ ys) (suc i) k = grind (arith, within_removed ys i)
 
 pub within_each : (ts : List Task) → all_within ts ≡ true → (k : ℕ) (d : Task) → k < length ts → within_limits (get_or ts k d) ≡ true
 within_each [] a k d h = absurd (omega arith)
@@ -55,14 +49,11 @@ work_removed (y ∷ ys) zero t = omega arith
 work_removed (y ∷ ys) (suc i) t = omega (arith, work_removed ys i t)
 
 above_through : (x y z : Task) → stands_above x y ≡ true → stands_above y z ≡ true → stands_above x z ≡ true
-above_through x y z a b =
-    le-leb x.period.0 z.period.0 (omega (arith, leb-true x.period.0 y.period.0 a, leb-true y.period.0 z.period.0 b))
+above_through x y z a b = grind arith
 
 second_leaves : (y x : Task) (xs : List Task) → stands_above y x ≡ true → by_priority (x ∷ xs) ≡ true → by_priority (y ∷ xs) ≡ true
 second_leaves y x [] a h = refl
-second_leaves y x (z ∷ zs) a h =
-    let p = and_parts (stands_above x z) (by_priority (z ∷ zs)) h in
-    and_from (stands_above y z) (by_priority (z ∷ zs)) (above_through y x z a p.0) p.1
+second_leaves y x (z ∷ zs) a h = grind (arith, above_through y x z)
 
 pub priority_removed : (ts : List Task) (i : ℕ) → by_priority ts ≡ true → by_priority (remove ts i) ≡ true
 priority_removed [] zero h = refl
@@ -71,9 +62,5 @@ priority_removed (y ∷ []) zero h = refl
 priority_removed (y ∷ []) (suc zero) h = refl
 priority_removed (y ∷ []) (suc (suc i)) h = refl
 priority_removed (y ∷ (x ∷ xs)) zero h = (and_parts (stands_above y x) (by_priority (x ∷ xs)) h).1
-priority_removed (y ∷ (x ∷ xs)) (suc zero) h =
-    let p = and_parts (stands_above y x) (by_priority (x ∷ xs)) h in
-    second_leaves y x xs p.0 p.1
-priority_removed (y ∷ (x ∷ xs)) (suc (suc i)) h =
-    let p = and_parts (stands_above y x) (by_priority (x ∷ xs)) h in
-    and_from (stands_above y x) (by_priority (remove (x ∷ xs) (suc i))) p.0 (priority_removed (x ∷ xs) (suc i) p.1)
+priority_removed (y ∷ (x ∷ xs)) (suc zero) h = grind (arith, second_leaves y x xs)
+priority_removed (y ∷ (x ∷ xs)) (suc (suc i)) h = grind (arith, priority_removed (x ∷ xs) (suc i))

@@ -61,13 +61,7 @@ one_error a₁ a₂ e d p q n = p ∙ ap (λ (r : Refused). Err (admitted r)) (n
 
 module _ (meaning : Meaning) (x : Task) (ss : List Seat) where
   first_unfit_once : (ts : List Task) (m n : ℕ) → FirstUnfit ts m → FirstUnfit ts n → m ≡ n
-  first_unfit_once ts m n f g =
-      ⊎_elim
-      (λ (e : f.at ≡ g.at). f.number ∙ ap (λ (k : ℕ). (get_or ts k no_task).number) e ∙ sym g.number)
-      (⊎_elim
-      (λ (lt : f.at < g.at). absurd (f.unfit (g.before f.at lt)))
-      (λ (lt : g.at < f.at). absurd (g.unfit (f.before g.at lt))))
-      (cases_order f.at g.at)
+  first_unfit_once ts m n f g = grind (arith, f, g, cases_order f.at g.at)
 
   entry_once : (m n : ℕ) → Entry x ss m → Entry x ss n → m ≡ n
   entry_once m n (inl p) (inl q) = omega (arith, p.1, q.1)

@@ -10,10 +10,7 @@ use Rattle.seating.specs.declared.seat.Seat.{Seat}
 use Rattle.seating.specs.Seats.{no_seat, holds}
 
 none_passes : {X : Type 0} (p : X → Bool) (xs : List X) → position p xs ≡ None → list_any p xs ≡ false
-none_passes p xs e = elim (cases_Bool (ltb (position_or_len p xs) (length xs))) [
-  | inl t ↦ absurd (none-some (position_or_len p xs) (sym e ∙ cond-true (ltb (position_or_len p xs) (length xs)) (Some (position_or_len p xs)) None t))
-  | inr f ↦ list_any_none p xs (λ k d lt. fails_before_first p xs k d (omega (arith, ltb-false (position_or_len p xs) (length xs) f)))
-]
+none_passes p xs e = grind (arith, list_any_none p xs, fails_before_first p xs)
 
 -- where a number sits in a list of seats, or that it does not
 abbrev pub SpotIn : ℕ → List Seat → Option ℕ → Type 0
