@@ -1,5 +1,5 @@
 -- Every call has an answer.
-use Rattle.std.proofs.Common.{◌≡◌, ℕ, zero, suc, ◌+◌, ◌-◌, ◌<◌, ◌≤◌, Bool, true, false, cond, not, ◌||◌, eqb, ltb, ◌⊎◌, List, [], ◌∷◌, ◌++◌, length, get_or, take, drop, set, Some, None, Ok, Err, Option, Result, sym, refl, ap, ◌∙◌, subst, inl, inr, ⊎_elim, arith, drop-cons}
+use Rattle.std.proofs.Common.{◌≡◌, ℕ, zero, suc, ◌+◌, ◌-◌, ◌<◌, ◌≤◌, Bool, true, false, cond, not, ◌||◌, ◌==◌, position, eqb, ltb, ◌⊎◌, List, [], ◌∷◌, ◌++◌, length, get_or, take, drop, set, Some, None, Ok, Err, Option, Result, sym, refl, ap, ◌∙◌, subst, inl, inr, ⊎_elim, arith, drop-cons}
 use Rattle.std.specs.List.{remove}
 use Rattle.std.specs.Option.{option_or}
 use Rattle.std.proofs.lemmas.List.{take-append-drop, drop_all, drop_at, take_at, take-map, map-append, length-take-le, length-append, length-drop, get_or_append_left, get_or-append_right, get_or-set_same}
@@ -22,6 +22,7 @@ use Rattle.seating.specs.Admission.{earlier, said, on, as_seen, WouldTake, Entry
 use Rattle.seating.specs.Judging.{Given, AllGiven, FirstNone}
 use Rattle.seating.specs.Withdrawal.{SitsAt, WithdrawsSome}
 use Rattle.seating.proofs.Exactly.{takes_exactly, some_or_none}
+use Rattle.seating.proofs.Spotting.{SpotIn, first_spot}
 use Rattle.seating.proofs.Placing.{length-tasks, length-joined, place_le, take-joined, joined_here}
 
 abbrev task_in : Seat → Task
@@ -286,20 +287,6 @@ pub admits_some : AdmitsSome
 admits_some meaning laws before prefers b held x sheet = any_answer meaning laws before prefers b held x sheet
 
 -- a withdrawal
-record SpotIn (n : ℕ) (ss : List Seat) : Type 0 where
-  at : ℕ
-  within : at < length ss
-  number : (get_or ss at no_seat).task.number ≡ n
-
-spot_in : (n : ℕ) (ss : List Seat) → SpotIn n ss ⊎ (holds n ss ≡ false)
-spot_in n [] = inr refl
-spot_in n (s ∷ ss) = go (eqb s.task.number n) refl (spot_in n ss)
-  where
-    go : (e : Bool) → eqb s.task.number n ≡ e → SpotIn n ss ⊎ (holds n ss ≡ false) → SpotIn n (s ∷ ss) ⊎ ((e || holds n ss) ≡ false)
-    go true e r = inl (record { at = 0; within = omega arith; number = eqb-true s.task.number n e })
-    go false e (inl r) = inl (record { at = suc r.at; within = omega (arith, r.within); number = r.number })
-    go false e (inr h) = inr h
-
 record SpotOn (n : ℕ) (b : Lists) : Type 0 where
   p : ℕ
   at : ℕ
@@ -307,12 +294,12 @@ record SpotOn (n : ℕ) (b : Lists) : Type 0 where
 
 spot_on : (n : ℕ) (b : Lists) → SpotOn n b ⊎ (seated n b ≡ false)
 spot_on n [] = inr refl
-spot_on n (ss ∷ b) = go (holds n ss) refl (spot_in n ss) (spot_on n b)
+spot_on n (ss ∷ b) = go (position (λ (s : Seat). s.task.number == n) ss) (first_spot n ss _ refl) (spot_on n b)
   where
-    go : (e : Bool) → holds n ss ≡ e → SpotIn n ss ⊎ (holds n ss ≡ false) → SpotOn n b ⊎ (seated n b ≡ false) → SpotOn n (ss ∷ b) ⊎ ((e || seated n b) ≡ false)
-    go e h (inl s) r = inl (record { p = 0; at = s.at; sits = record { there = omega arith; within = s.within; number = s.number } })
-    go e h (inr no_one) (inl r) = inl (record { p = suc r.p; at = r.at; sits = record { there = omega (arith, r.sits.there); within = r.sits.within; number = r.sits.number } })
-    go e h (inr no_one) (inr none) = inr (ap (λ (v : Bool). v || seated n b) (sym h ∙ no_one) ∙ none)
+    go : (o : Option ℕ) → SpotIn n ss o → SpotOn n b ⊎ (seated n b ≡ false) → SpotOn n (ss ∷ b) ⊎ ((holds n ss || seated n b) ≡ false)
+    go (Some at) s r = inl (record { p = 0; at = at; sits = record { there = omega arith; within = s.0; number = s.1 } })
+    go None no_one (inl r) = inl (record { p = suc r.p; at = r.at; sits = record { there = omega (arith, r.sits.there); within = r.sits.within; number = r.sits.number } })
+    go None no_one (inr none) = inr (ap (λ (v : Bool). v || seated n b) no_one ∙ none)
 
 pub withdraws_some : WithdrawsSome
 withdraws_some b n = ⊎_elim

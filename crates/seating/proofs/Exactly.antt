@@ -18,9 +18,7 @@ use Rattle.seating.proofs.Placing.{length-tasks, length-joined, place_le, above_
 within_take : (k : ℕ) (ts : List Task) → all_within ts ≡ true → all_within (take k ts) ≡ true
 within_take zero ts a = refl
 within_take (suc k) [] a = refl
-within_take (suc k) (y ∷ ys) a =
-    let p = and_parts (within_limits y) (all_within ys) a in
-    and_from (within_limits y) (all_within (take k ys)) p.0 (within_take k ys p.1)
+within_take (suc k) (y ∷ ys) a = grind (arith, within_take k ys)
 
 pub some_or_none : {X : Type 0} (o : Option X) → ((x : X) × (o ≡ Some x)) ⊎ (o ≡ None)
 some_or_none (Some x) = inl (x, refl)
@@ -42,9 +40,7 @@ module _ (meaning : Meaning) (laws : JudgeLaws meaning) (x : Task) (ss : List Se
   may_ask : (k : ℕ) → k < length all → asked (get_or all k no_task) (take k all) ≡ true
   may_ask k h =
       let w = within_joined x ts own limits in
-      and_from (leb (length (take k all)) 31) (within_limits (get_or all k no_task) && all_within (take k all))
-      (le-leb (length (take k all)) 31 (omega (arith, long, length-take-le k all (omega arith))))
-      (and_from (within_limits (get_or all k no_task)) (all_within (take k all)) (within_each all w k no_task h) (within_take k all w))
+      grind (arith, long, length-take-le k all, within_each all w k no_task h, within_take k all w)
 
   fits_above : (k : ℕ) → k < place → FitsAt all k
   fits_above k lt =

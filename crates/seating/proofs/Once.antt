@@ -1,6 +1,7 @@
 -- The relation of an admission allows one answer, sheet and table.
 use Rattle.std.proofs.Common.{◌≡◌, ℕ, ◌+◌, ◌-◌, ◌<◌, ◌≤◌, cond, eqb, ◌⊎◌, List, [], length, get_or, set, Some, None, Ok, Err, Option, Result, sym, refl, ap, ◌∙◌, subst, inl, inr, ⊎_elim, arith}
 use Rattle.std.proofs.lemmas.List.{ext_get_or, get_or-take, get_or-drop, get_or-map}
+use Rattle.std.proofs.lemmas.Option.{none-some}
 use Rattle.std.proofs.lemmas.Bool.{cases_eq, cases_lt, cases_order, both_ways, not_from_true}
 use Rattle.tasks.specs.declared.task.Task.{Task}
 use Rattle.tasks.specs.declared.units.Ticks.{Ticks}
@@ -24,9 +25,6 @@ use Rattle.seating.proofs.Placing.{length-tasks, length-joined}
 same_seat : (s t : Seat) → s.task ≡ t.task → s.instant ≡ t.instant → s ≡ t
 same_seat s t e f = ap (λ (y : Task). record { task = y; instant = s.instant }) e ∙ ap (λ (i : Ticks). record { task = t.task; instant = i }) f
 
-none_some : {X : Type 0} (o : Option X) (x : X) → o ≡ None → o ≡ Some x → ⊥
-none_some o x p q = let z : ◌≡◌ {A = ℕ} 0 1 = cc in omega arith
-
 -- the refusal of a number
 named : ℕ → Refused
 named n =
@@ -49,15 +47,8 @@ named_back (Asking NoProcessor) = refl
 pub numbers_differ : NumbersDiffer
 numbers_differ a b e = sym (named_back a) ∙ ap named e ∙ named_back b
 
-admitted : Refused → AdmitRefusal
-admitted (Admitting e) = e
-admitted (Making e) = NoTaker
-admitted (Withdrawing e) = NoTaker
-admitted (Asking e) = NoTaker
-
-one_error : (a₁ a₂ : Result (ℕ × Ticks) AdmitRefusal) (e d : AdmitRefusal) → a₁ ≡ Err e → a₂ ≡ Err d → number_of (Admitting e) ≡ number_of (Admitting d) → a₁ ≡ a₂
-unfolding admitted
-one_error a₁ a₂ e d p q n = p ∙ ap (λ (r : Refused). Err (admitted r)) (numbers_differ (Admitting e) (Admitting d) n) ∙ sym q
+same_cause : (e d : AdmitRefusal) → number_of (Admitting e) ≡ number_of (Admitting d) → e ≡ d
+same_cause e d n = let same = numbers_differ (Admitting e) (Admitting d) n in cc
 
 module _ (meaning : Meaning) (x : Task) (ss : List Seat) where
   first_unfit_once : (ts : List Task) (m n : ℕ) → FirstUnfit ts m → FirstUnfit ts n → m ≡ n
@@ -90,20 +81,6 @@ module _ (meaning : Meaning) (x : Task) (ss : List Seat) where
       (cases_lt k place))
 
 module _ (meaning : Meaning) (before : Relation) (laws : PreferenceLaws before) (b : Lists) (x : Task) (sheet : List ℕ) where
-  abbrev Grant : Result (ℕ × Ticks) AdmitRefusal → List ℕ → Lists → Type 0
-  Grant a s b' = (o : ℕ × Ticks) × (a ≡ Ok o) × Granted meaning before b x sheet o.0 o.1 s b'
-
-  abbrev Turned : Result (ℕ × Ticks) AdmitRefusal → List ℕ → Lists → Type 0
-  Turned a s b' = (e : AdmitRefusal) × (a ≡ Err e) × (number_of (Admitting e) ≡ 8) × TurnedAway b x sheet s b'
-
-  abbrev Early : Result (ℕ × Ticks) AdmitRefusal → List ℕ → Lists → Type 0
-  Early a s b' = (e : AdmitRefusal) × (a ≡ Err e) × RefusedEarly b x (number_of (Admitting e)) sheet s b'
-
-  split : (a : Result (ℕ × Ticks) AdmitRefusal) (s : List ℕ) (b' : Lists) → Admits meaning before b x sheet a s b' → Grant a s b' ⊎ (Turned a s b' ⊎ Early a s b')
-  split (Ok o) s b' h = inl (o, refl, h)
-  split (Err e) s b' (inl h) = inr (inr (e, refl, h))
-  split (Err e) s b' (inr h) = inr (inl (e, refl, h.0, h.1))
-
   same_taker : (p q : ℕ) (t u : Ticks) (s₁ s₂ : List ℕ) (b₁ b₂ : Lists) → Granted meaning before b x sheet p t s₁ b₁ → Granted meaning before b x sheet q u s₂ b₂ → p ≡ q
   same_taker p q t u s₁ s₂ b₁ b₂ f g =
       ⊎_elim (λ (e : p ≡ q). e)
@@ -131,27 +108,19 @@ module _ (meaning : Meaning) (before : Relation) (laws : PreferenceLaws before) 
       ap (λ (j : ℕ). get_or s₁ j 0) (sym e) ∙ sym (get_or-drop m s₁ (k - m) 0) ∙ ap (λ (l : List ℕ). get_or l (k - m) 0) (f.rest ∙ sym g.rest) ∙ get_or-drop m s₂ (k - m) 0 ∙ ap (λ (j : ℕ). get_or s₂ j 0) e)
       (cases_lt k (length b)))
 
-  abbrev Same : Result (ℕ × Ticks) AdmitRefusal → Result (ℕ × Ticks) AdmitRefusal → List ℕ → List ℕ → Lists → Lists → Type 0
-  Same a₁ a₂ s₁ s₂ b₁ b₂ = (a₁ ≡ a₂) × (s₁ ≡ s₂) × (b₁ ≡ b₂)
-
-  once : (a₁ a₂ : Result (ℕ × Ticks) AdmitRefusal) (s₁ s₂ : List ℕ) (b₁ b₂ : Lists) → Grant a₁ s₁ b₁ ⊎ (Turned a₁ s₁ b₁ ⊎ Early a₁ s₁ b₁) → Grant a₂ s₂ b₂ ⊎ (Turned a₂ s₂ b₂ ⊎ Early a₂ s₂ b₂) → Same a₁ a₂ s₁ s₂ b₁ b₂
-  once a₁ a₂ s₁ s₂ b₁ b₂ (inl f) (inl g) =
-      let p = same_taker f.0.0 g.0.0 f.0.1 g.0.1 s₁ s₂ b₁ b₂ f.2 g.2 in
-      let r = grants_once f.0.0 g.0.0 f.0.1 g.0.1 s₁ s₂ b₁ b₂ p f.2 g.2 in
-      (f.1 ∙ ap (λ (k : ℕ). Ok (k, f.0.1)) p ∙ ap (λ (t : Ticks). Ok (g.0.0, t)) r.0 ∙ sym g.1, r.1, r.2)
-  once a₁ a₂ s₁ s₂ b₁ b₂ (inl f) (inr (inl g)) = absurd (g.3.nobody f.0.0 f.2.preferred.there f.2.preferred.takes)
-  once a₁ a₂ s₁ s₂ b₁ b₂ (inl f) (inr (inr g)) = absurd (none_some _ _ f.2.passes g.2.cause)
-  once a₁ a₂ s₁ s₂ b₁ b₂ (inr (inl f)) (inl g) = absurd (f.3.nobody g.0.0 g.2.preferred.there g.2.preferred.takes)
-  once a₁ a₂ s₁ s₂ b₁ b₂ (inr (inl f)) (inr (inl g)) = (one_error a₁ a₂ f.0 g.0 f.1 g.1 (f.2 ∙ sym g.2), sheets_once s₁ s₂ b₁ b₂ f.3 g.3, f.3.seats_stay ∙ sym g.3.seats_stay)
-  once a₁ a₂ s₁ s₂ b₁ b₂ (inr (inl f)) (inr (inr g)) = absurd (none_some _ _ f.3.passes g.2.cause)
-  once a₁ a₂ s₁ s₂ b₁ b₂ (inr (inr f)) (inl g) = absurd (none_some _ _ g.2.passes f.2.cause)
-  once a₁ a₂ s₁ s₂ b₁ b₂ (inr (inr f)) (inr (inl g)) = absurd (none_some _ _ g.3.passes f.2.cause)
-  once a₁ a₂ s₁ s₂ b₁ b₂ (inr (inr f)) (inr (inr g)) =
-      let k = f.2.cause in
-      let l = g.2.cause in
-      let same : number_of (Admitting f.0) ≡ number_of (Admitting g.0) = cc in
-      (one_error a₁ a₂ f.0 g.0 f.1 g.1 same, f.2.sheet_stays ∙ sym g.2.sheet_stays, f.2.seats_stay ∙ sym g.2.seats_stay)
+  once : (a₁ a₂ : Result (ℕ × Ticks) AdmitRefusal) (s₁ s₂ : List ℕ) (b₁ b₂ : Lists) → Admits meaning before b x sheet a₁ s₁ b₁ → Admits meaning before b x sheet a₂ s₂ b₂ → (a₁ ≡ a₂) × (s₁ ≡ s₂) × (b₁ ≡ b₂)
+  once (Ok o) (Ok c) s₁ s₂ b₁ b₂ f g =
+      let p = same_taker o.0 c.0 o.1 c.1 s₁ s₂ b₁ b₂ f g in
+      let r = grants_once o.0 c.0 o.1 c.1 s₁ s₂ b₁ b₂ p f g in
+      (ap (λ (k : ℕ). Ok (k, o.1)) p ∙ ap (λ (t : Ticks). Ok (c.0, t)) r.0, r.1, r.2)
+  once (Ok o) (Err e) s₁ s₂ b₁ b₂ f (inl g) = absurd (none-some _ (sym f.passes ∙ g.cause))
+  once (Ok o) (Err e) s₁ s₂ b₁ b₂ f (inr g) = absurd (g.1.nobody o.0 f.preferred.there f.preferred.takes)
+  once (Err e) (Ok o) s₁ s₂ b₁ b₂ (inl f) g = absurd (none-some _ (sym g.passes ∙ f.cause))
+  once (Err e) (Ok o) s₁ s₂ b₁ b₂ (inr f) g = absurd (f.1.nobody o.0 g.preferred.there g.preferred.takes)
+  once (Err e) (Err d) s₁ s₂ b₁ b₂ (inl f) (inl g) = (ap (λ (c : AdmitRefusal). Err c) (same_cause e d (let k = f.cause in let l = g.cause in cc)), f.sheet_stays ∙ sym g.sheet_stays, f.seats_stay ∙ sym g.seats_stay)
+  once (Err e) (Err d) s₁ s₂ b₁ b₂ (inl f) (inr g) = absurd (none-some _ (sym g.1.passes ∙ f.cause))
+  once (Err e) (Err d) s₁ s₂ b₁ b₂ (inr f) (inl g) = absurd (none-some _ (sym f.1.passes ∙ g.cause))
+  once (Err e) (Err d) s₁ s₂ b₁ b₂ (inr f) (inr g) = (ap (λ (c : AdmitRefusal). Err c) (same_cause e d (f.0 ∙ sym g.0)), sheets_once s₁ s₂ b₁ b₂ f.1 g.1, f.1.seats_stay ∙ sym g.1.seats_stay)
 
 pub admits_once : AdmitsOnce
-admits_once meaning before laws b x sheet a₁ a₂ s₁ s₂ b₁ b₂ h k =
-    once meaning before laws b x sheet a₁ a₂ s₁ s₂ b₁ b₂ (split meaning before laws b x sheet a₁ s₁ b₁ h) (split meaning before laws b x sheet a₂ s₂ b₂ k)
+admits_once meaning before laws b x sheet a₁ a₂ s₁ s₂ b₁ b₂ h k = once meaning before laws b x sheet a₁ a₂ s₁ s₂ b₁ b₂ h k
