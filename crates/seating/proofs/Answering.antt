@@ -48,11 +48,7 @@ has_name false false true true false true n h = (AllFull, same_number 7 n h)
 has_name false false true true false false n h = absurd (none_is_no n h)
 
 passes_parts : (b₁ b₂ b₃ b₄ b₅ b₆ : Bool) → chain b₁ b₂ b₃ b₄ b₅ b₆ ≡ None → (b₁ ≡ false) × (b₃ ≡ true) × (b₄ ≡ true)
-passes_parts true b₂ b₃ b₄ b₅ b₆ h = absurd (none_is_no 2 (sym h))
-passes_parts false true b₃ b₄ b₅ b₆ h = absurd (none_is_no 3 (sym h))
-passes_parts false false false b₄ b₅ b₆ h = absurd (none_is_no 4 (sym h))
-passes_parts false false true false b₅ b₆ h = absurd (none_is_no 5 (sym h))
-passes_parts false false true true b₅ b₆ h = (refl, refl, refl)
+passes_parts b₁ b₂ b₃ b₄ b₅ b₆ h = (grind arith, grind arith, grind arith)
 
 -- one processor would take x, or the sheet has something to say of it
 module _ (meaning : Meaning) (laws : JudgeLaws meaning) (x : Task) (own : within_limits x ≡ true) (ss : List Seat) (held : Kept ss) where
