@@ -1,7 +1,11 @@
 -- Every call has an answer.
-use Rattle.std.proofs.Common.{◌≡◌, ℕ, zero, suc, ◌+◌, ◌-◌, ◌<◌, ◌≤◌, Bool, true, false, cond, not, ◌||◌, ◌==◌, position, eqb, ltb, ◌⊎◌, List, [], ◌∷◌, ◌++◌, length, get_or, take, drop, set, Some, None, Ok, Err, Option, Result, sym, refl, ap, ◌∙◌, subst, inl, inr, ⊎_elim, arith, drop-cons}
+use Rattle.std.proofs.Common.{◌≡◌, ℕ, zero, suc, ◌+◌, ◌-◌, ◌<◌, ◌≤◌, Bool, true, false, cond, not, ◌||◌, ◌==◌, position, eqb, ltb, ◌⊎◌, List, [], ◌∷◌, ◌++◌, map, length, get_or, take, drop, set, Some, None, Ok, Err, Option, Result, sym, refl, ap, ◌∙◌, subst, inl, inr, ⊎_elim, arith, drop-cons}
 use Rattle.std.specs.List.{remove}
-use Rattle.std.specs.Option.{option_or}
+use Rattle.std.specs.Option.{option_or, unwrap_or}
+use Rattle.std.specs.List.{range_with_len}
+use Rattle.std.proofs.lemmas.Option.{none-some}
+use Rattle.std.proofs.lemmas.List.FromFn.{length-map-range_with_len, get_or-map-range_with_len}
+use Rattle.std.proofs.lemmas.List.{ext_get_or, get_or-map, get_or-drop}
 use Rattle.std.proofs.lemmas.List.{take-append-drop, drop_all, drop_at, take_at, take-map, map-append, length-take-le, length-append, length-drop, get_or_append_left, get_or-append_right, get_or-set_same}
 use Rattle.std.proofs.lemmas.Bool.{cases_lt, cases_eq, cases_Bool, eqb-true, ltb-false, and_from, not_from_false}
 use Rattle.tasks.specs.declared.task.Task.{Task}
@@ -17,7 +21,7 @@ use Rattle.seating.specs.declared.refusal.AdmitRefusal.TheVariants.{ShortSheet, 
 use Rattle.seating.specs.declared.refusal.WithdrawRefusal.TheVariants.{NotSeated}
 use Rattle.seating.specs.declared.refused.Refused.TheVariants.{Admitting}
 use Rattle.seating.specs.Refusals.{number_of}
-use Rattle.seating.specs.Seats.{Lists, tasks_of, no_seat, place_of, holds, seated, all_full, Kept}
+use Rattle.seating.specs.Seats.{Lists, tasks_of, no_seat, no_ticks, place_of, holds, seated, all_full, Kept}
 use Rattle.seating.specs.Admission.{earlier, said, on, as_seen, WouldTake, Entry, Joins, Admits, AdmitsSome}
 use Rattle.seating.specs.Judging.{Given, AllGiven, FirstNone}
 use Rattle.seating.specs.Withdrawal.{SitsAt, WithdrawsSome}
@@ -29,23 +33,17 @@ abbrev task_in : Seat → Task
 task_in s = s.task
 
 -- the causes before 8 are refusals of an admission
-same_number : (m n : ℕ) → ◌≡◌ {A = Option ℕ} (Some m) (Some n) → m ≡ n
-same_number m n h = cc
-
-none_is_no : (n : ℕ) → ◌≡◌ {A = Option ℕ} None (Some n) → ⊥
-none_is_no n h = let z : ◌≡◌ {A = ℕ} 0 1 = cc in omega arith
-
 abbrev chain : Bool → Bool → Bool → Bool → Bool → Bool → Option ℕ
 chain b₁ b₂ b₃ b₄ b₅ b₆ = option_or (cond b₁ (Some 2) (cond b₂ (Some 3) (cond (not b₃) (Some 4) (cond (not b₄) (Some 5) None)))) (cond b₅ (Some 6) (cond b₆ (Some 7) None))
 
 has_name : (b₁ b₂ b₃ b₄ b₅ b₆ : Bool) (n : ℕ) → chain b₁ b₂ b₃ b₄ b₅ b₆ ≡ Some n → (e : AdmitRefusal) × (number_of (Admitting e) ≡ n)
-has_name true b₂ b₃ b₄ b₅ b₆ n h = (ShortSheet, same_number 2 n h)
-has_name false true b₃ b₄ b₅ b₆ n h = (NumberZero, same_number 3 n h)
-has_name false false false b₄ b₅ b₆ n h = (BadPeriod, same_number 4 n h)
-has_name false false true false b₅ b₆ n h = (BadWork, same_number 5 n h)
-has_name false false true true true b₆ n h = (AlreadySeated, same_number 6 n h)
-has_name false false true true false true n h = (AllFull, same_number 7 n h)
-has_name false false true true false false n h = absurd (none_is_no n h)
+has_name true b₂ b₃ b₄ b₅ b₆ n h = (ShortSheet, cc)
+has_name false true b₃ b₄ b₅ b₆ n h = (NumberZero, cc)
+has_name false false false b₄ b₅ b₆ n h = (BadPeriod, cc)
+has_name false false true false b₅ b₆ n h = (BadWork, cc)
+has_name false false true true true b₆ n h = (AlreadySeated, cc)
+has_name false false true true false true n h = (AllFull, cc)
+has_name false false true true false false n h = absurd (none-some n h)
 
 passes_parts : (b₁ b₂ b₃ b₄ b₅ b₆ : Bool) → chain b₁ b₂ b₃ b₄ b₅ b₆ ≡ None → (b₁ ≡ false) × (b₃ ≡ true) × (b₄ ≡ true)
 passes_parts b₁ b₂ b₃ b₄ b₅ b₆ h = (grind arith, grind arith, grind arith)
@@ -83,67 +81,51 @@ module _ (meaning : Meaning) (laws : JudgeLaws meaning) (x : Task) (own : within
   is_given : WouldTake x ss → AllGiven meaning x ss
   is_given w = (takes_exactly meaning laws x ss own held.0 held.1 w.room).fits_given w.fits
 
-  -- the seats from place k on
-  inside : (d k : ℕ) → k + suc d ≡ length ss + 1 → k < length ss + 1
-  inside d k e = omega arith
-
-  next : (d k : ℕ) → k + suc d ≡ length ss + 1 → suc k + d ≡ length ss + 1
-  next d k e = omega arith
-
-  lower : (k : ℕ) → place ≤ k → place ≤ suc k
-  lower k lo = omega arith
-
   module _ (g : AllGiven meaning x ss) where
-    abbrev below : (d k : ℕ) → k + d ≡ length ss + 1 → place ≤ k → List Seat
-    below zero k e lo = []
-    below (suc d) k e lo = record { task = get_or all k no_task; instant = (g k lo (inside d k e)).0 } ∷ below d (suc k) (next d k e) (lower k lo)
+    -- the seat at place k, and those from x down
+    abbrev seat_at : ℕ → Seat
+    seat_at k = record { task = get_or all k no_task; instant = unwrap_or (said meaning all k) no_ticks }
 
-    below_tasks : (d k : ℕ) (e : k + d ≡ length ss + 1) (lo : place ≤ k) → tasks_of (below d k e lo) ≡ drop k all
-    below_tasks zero k e lo = sym (drop_all k all (omega (arith, length-joined x (tasks_of ss), length-tasks ss)))
-    below_tasks (suc d) k e lo =
-        ap (λ (l : List Task). get_or all k no_task ∷ l) (below_tasks d (suc k) (next d k e) (lower k lo))
-        ∙ sym (drop-cons all k no_task (omega (arith, length-joined x (tasks_of ss), length-tasks ss)))
+    abbrev long : ℕ
+    long = length ss + 1 - place
 
-    below_judged : (d k : ℕ) (e : k + d ≡ length ss + 1) (lo : place ≤ k) (j : ℕ) → j < d → said meaning all (k + j) ≡ Some (get_or (below d k e lo) j no_seat).instant
-    below_judged zero k e lo j h = absurd (omega arith)
-    below_judged (suc d) k e lo zero h =
-        let z : k + 0 ≡ k = omega arith in
-        ap (λ (i : ℕ). said meaning all i) z ∙ (g k lo (inside d k e)).1
-    below_judged (suc d) k e lo (suc j) h =
-        let z : k + suc j ≡ suc k + j = omega arith in
-        ap (λ (i : ℕ). said meaning all i) z ∙ below_judged d (suc k) (next d k e) (lower k lo) j (omega arith)
-
-    whole : place + (length ss + 1 - place) ≡ length ss + 1
-    whole = omega (arith, place_in)
-
-    here : place ≤ place
-    here = omega arith
+    abbrev rest : List Seat
+    rest = map seat_at (range_with_len place long)
 
     abbrev new : List Seat
-    new = take place ss ++ below (length ss + 1 - place) place whole here
+    new = take place ss ++ rest
+
+    rest_tasks : tasks_of rest ≡ drop place all
+    rest_tasks =
+        let n = length-map-range_with_len seat_at place long in
+        let m = length-joined x (tasks_of ss) in
+        ext_get_or no_task (tasks_of rest) (drop place all) (omega (arith, length-tasks rest, length-drop place all, length-tasks ss)) (λ k h.
+        let lt : k < long = omega (arith, length-tasks rest) in
+        get_or-map task_in rest k no_seat no_task (omega arith)
+        ∙ ap task_in (get_or-map-range_with_len seat_at place long k (place + k) no_seat lt refl) ∙ sym (get_or-drop place all k no_task))
 
     new_joins : Joins meaning x ss new
     new_joins =
-        let rest = below (length ss + 1 - place) place whole here in
         let front : length (take place ss) ≡ place = length-take-le place ss place_in in
         record {
           tasks = map-append task_in (take place ss) rest
-              ∙ ap (λ (l : List Task). l ++ tasks_of rest) (sym (take-map task_in place ss) ∙ sym (take-joined x (tasks_of ss) place here))
-              ∙ ap (λ (l : List Task). take place all ++ l) (below_tasks (length ss + 1 - place) place whole here)
+              ∙ ap (λ (l : List Task). l ++ tasks_of rest) (sym (take-map task_in place ss) ∙ sym (take-joined x (tasks_of ss) place (omega arith)))
+              ∙ ap (λ (l : List Task). take place all ++ l) rest_tasks
               ∙ take-append-drop place all;
           above = take_at (take place ss) rest place front;
           judged = λ k lo hi.
-              let z : k ≡ place + (k - place) = omega arith in
-              ap (λ (i : ℕ). said meaning all i) z ∙ below_judged (length ss + 1 - place) place whole here (k - place) (omega arith)
-              ∙ ap (λ (s : Seat). Some s.instant) (sym (get_or-append_right (take place ss) rest place k no_seat front lo));
+              let s = g k lo hi in
+              let at : get_or new k no_seat ≡ seat_at k =
+              get_or-append_right (take place ss) rest place k no_seat front lo ∙ get_or-map-range_with_len seat_at place long (k - place) k no_seat (omega arith) (omega arith) in
+              s.1 ∙ ap (λ (o : Option Ticks). Some (unwrap_or o no_ticks)) (sym s.1) ∙ ap (λ (y : Seat). Some y.instant) (sym at);
         }
 
     own_instant : (t : Ticks) × (meaning x (take place (tasks_of ss)) ≡ Some t)
     own_instant =
-        let s = g place here (omega (arith, place_in)) in (
+        let s = g place (omega arith) (omega (arith, place_in)) in (
           s.0,
           ap (λ (y : Task). meaning y (take place (tasks_of ss))) (sym (joined_here x (tasks_of ss)))
-              ∙ ap (λ (l : List Task). meaning (get_or all place no_task) l) (sym (take-joined x (tasks_of ss) place here)) ∙ s.1,
+              ∙ ap (λ (l : List Task). meaning (get_or all place no_task) l) (sym (take-joined x (tasks_of ss) place (omega arith))) ∙ s.1,
         )
 
 refuses : (x : Task) (ss : List Seat) (n : ℕ) → Entry x ss n → WouldTake x ss → ⊥
