@@ -1,13 +1,13 @@
 -- No number is seated twice: each stands once at most among all numbers, counted list by list.
-use Rattle.std.proofs.Common.{◌≡◌, ℕ, zero, suc, ◌+◌, ◌<◌, ◌≤◌, Bool, true, false, cond, not, ◌||◌, ◌==◌, eqb, List, [], ◌∷◌, ◌++◌, map, length, get_or, take, set, replicate, count_by, sum_by, sym, refl, ap, ◌∙◌, subst, ⊎_elim, arith}
+use Rattle.std.proofs.Common.{◌≡◌, ℕ, zero, suc, ◌+◌, ◌<◌, ◌≤◌, Bool, true, false, cond, not, ◌==◌, List, [], ◌∷◌, map, length, get_or, take, set, replicate, count_by, sum_by, sym, refl, ap, ◌∙◌, arith}
 use Rattle.std.specs.List.{remove, list_any}
-use Rattle.std.proofs.lemmas.Bool.{and_from, and_parts, not-true, not_from_false, or_parts, eqb-true, eq-eqb, cases_Bool, cond-true, cond-false, true≢false, cases_order}
+use Rattle.std.proofs.lemmas.Bool.{and_parts, true≢false}
 use Rattle.std.proofs.lemmas.List.{get_or-take, length-take-le}
 use Rattle.std.proofs.lemmas.List.Sums.{sum_by-cons, sum_by-append, sum_by-set, sum_by-insert, get_or-le-sum_by, sum_by_more_le}
 use Rattle.tasks.specs.declared.task.Task.{Task}
 use Rattle.tasks.specs.Priority.{joined}
 use Rattle.seating.specs.declared.seat.Seat.{Seat}
-use Rattle.seating.specs.Seats.{Lists, tasks_of, no_seat, place_of, numbers_of, numbers, has, all_differ, holds, seated}
+use Rattle.seating.specs.Seats.{Lists, tasks_of, no_seat, place_of, numbers_of, numbers, has, all_differ, seated}
 use Rattle.seating.proofs.Placing.{joined_at_place}
 
 -- sums and counts over any list

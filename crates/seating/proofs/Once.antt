@@ -1,5 +1,5 @@
 -- The relation of an admission allows one answer, sheet and table.
-use Rattle.std.proofs.Common.{◌≡◌, ℕ, ◌+◌, ◌-◌, ◌<◌, ◌≤◌, cond, eqb, ◌⊎◌, List, [], length, get_or, set, Some, None, Ok, Err, Option, Result, sym, refl, ap, ◌∙◌, subst, inl, inr, ⊎_elim, arith}
+use Rattle.std.proofs.Common.{◌≡◌, ℕ, ◌+◌, ◌-◌, ◌<◌, ◌≤◌, cond, eqb, List, [], length, get_or, set, Ok, Err, Result, sym, refl, ap, ◌∙◌, subst, inl, inr, ⊎_elim, arith}
 use Rattle.std.proofs.lemmas.List.{ext_get_or, get_or-take, get_or-drop, get_or-map}
 use Rattle.std.proofs.lemmas.Option.{none-some}
 use Rattle.std.proofs.lemmas.Bool.{cases_eq, cases_lt, cases_order, both_ways, not_from_true}
@@ -19,7 +19,7 @@ use Rattle.seating.specs.declared.refused.Refused.{Refused}
 use Rattle.seating.specs.declared.refused.Refused.TheVariants.{Making, Admitting, Withdrawing, Asking}
 use Rattle.seating.specs.Refusals.{number_of, NumbersDiffer}
 use Rattle.seating.specs.Seats.{Lists, tasks_of, no_seat, place_of}
-use Rattle.seating.specs.Admission.{FirstUnfit, Entry, Joins, Granted, TurnedAway, RefusedEarly, Admits, AdmitsOnce, as_seen}
+use Rattle.seating.specs.Admission.{FirstUnfit, Entry, Joins, Granted, TurnedAway, Admits, AdmitsOnce, as_seen}
 use Rattle.seating.proofs.Placing.{length-tasks, length-joined}
 
 same_seat : (s t : Seat) → s.task ≡ t.task → s.instant ≡ t.instant → s ≡ t

@@ -1,8 +1,7 @@
 -- Where the first task of a number sits.
-use Rattle.std.proofs.Common.{◌≡◌, ℕ, Bool, false, ltb, ◌<◌, List, length, get_or, Some, None, Option, position, ◌==◌, sym, ◌∙◌, inl, inr, arith}
-use Rattle.std.specs.List.{list_any, position_or_len}
-use Rattle.std.proofs.lemmas.Bool.{eqb-true, ltb-false, cases_Bool, cond-true}
-use Rattle.std.proofs.lemmas.Option.{none-some}
+use Rattle.std.proofs.Common.{◌≡◌, ℕ, Bool, false, ◌<◌, List, length, get_or, Some, None, Option, position, ◌==◌, sym, arith}
+use Rattle.std.specs.List.{list_any}
+use Rattle.std.proofs.lemmas.Bool.{eqb-true}
 use Rattle.std.proofs.lemmas.List.Quantifiers.{position-Some}
 use Rattle.std.proofs.lemmas.List.Folds.{list_any_none}
 use Rattle.std.proofs.lemmas.List.Sums.{fails_before_first}
