@@ -13,11 +13,13 @@ pub fn reads_what_stands()
 {}
 
 /// No bytes stand for two files.
+#[tactic(auto, using(crate::proofs::Standing::one_file))]
 pub fn one_file()
     ensures { OneFile }
 {}
 
 /// None stand for a file and have a fault.
+#[tactic(auto, using(crate::proofs::Standing::not_both))]
 pub fn not_both()
     ensures { NotBoth }
 {}
@@ -28,6 +30,7 @@ pub fn every_file_has_bytes()
 {}
 
 /// A record's label is that part of the input.
+#[tactic(auto, using(crate::proofs::Labels::labels_are_there))]
 pub fn labels_are_there()
     ensures { LabelsAreThere }
 {}
