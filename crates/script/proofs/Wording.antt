@@ -1,14 +1,12 @@
 -- The word of a line, and what stands behind it.
-use Rattle.std.proofs.Common.{◌≡◌, ℕ, suc, ◌+◌, ◌-◌, ◌<◌, ◌≤◌, true, false, eqb, ltb, leb, List, [], ◌∷◌, ◌++◌, length, get_or, take, drop, Some, None, Option, sym, refl, ap, ◌∙◌, inl, inr, one-add, arith}
-use Rattle.std.proofs.lemmas.List.{length-append, take_at, drop_at, append_assoc, take_rest}
-use Rattle.std.proofs.lemmas.Bool.{cond-true, cond-false, and_parts, and_right, eqb-true, ne_eqb, lt-ltb, le-ltb, le-leb, and_from, cases_Bool}
+use Rattle.std.proofs.Common.{◌≡◌, ℕ, suc, ◌+◌, ◌<◌, true, false, eqb, ltb, List, [], ◌∷◌, ◌++◌, length, take, drop, Some, None, sym, refl, ap, ◌∙◌, inl, inr, one-add, arith}
+use Rattle.std.proofs.lemmas.List.{length-append, take_at, drop_at, append_assoc}
+use Rattle.std.proofs.lemmas.Bool.{cond-true, cond-false, and_parts, eqb-true, ne_eqb, lt-ltb, le-ltb, cases_Bool}
 use Rattle.script.specs.declared.words.Word.{Word}
 use Rattle.script.specs.declared.words.Word.TheVariants.{Judge, Demand, Share, Rehearse, Trace}
-use Rattle.script.specs.Fields.{Unspaced, numbers_of}
+use Rattle.script.specs.Fields.{Unspaced}
 use Rattle.script.specs.Names.{name_of, same}
-use Rattle.tasks.specs.declared.task.Task.{Task}
-use Rattle.machine.specs.declared.state.Release.{Release}
-use Rattle.script.specs.Calls.{call_of, word_length, word_of, with_numbers, with_word, called}
+use Rattle.script.specs.Calls.{word_length, word_of, with_word, called}
 
 past_byte : (b : ℕ) (rest : List ℕ) → (b ≡ 32 → ⊥) → word_length (b ∷ rest) ≡ 1 + word_length rest
 past_byte b rest h = rw (ne_eqb b 32 h)

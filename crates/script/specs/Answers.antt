@@ -1,5 +1,5 @@
 -- What each call is answered.
-use Rattle.std.specs.Prelude.{ℕ, Some, None, Option}
+use Rattle.std.specs.Prelude.{Some, None, Option}
 use Rattle.tasks.specs.Demand.{demand_answer}
 use Rattle.tasks.specs.Share.{share_answer}
 use Rattle.judges.specs.Meanings.{least_good_point, least_good_instant}

@@ -1,11 +1,10 @@
 -- One turn of each loop that looks at an instant or writes its line.
-use Rattle.std.proofs.Common.{◌==◌, ◌≡◌, ℕ, suc, ◌+◌, ◌<◌, ◌≤◌, Bool, true, false, cond, ◌&&◌, ◌||◌, eqb, List, [], ◌∷◌, ◌++◌, length, get_or, take, drop, replicate, Some, None, codes, decimal, Option, sym, refl, ap, ◌∙◌, add-one, arith}
-use Rattle.std.specs.List.{position, position_from, enumerate_from, list_any}
+use Rattle.std.proofs.Common.{◌≡◌, ℕ, suc, ◌+◌, ◌≤◌, Bool, true, false, cond, ◌||◌, List, [], ◌∷◌, ◌++◌, length, take, replicate, Some, None, Option, sym, refl, ap, ◌∙◌, add-one, arith}
+use Rattle.std.specs.List.{position, position_from, enumerate_from}
 use Rattle.std.proofs.lemmas.List.{append_assoc, take-replicate}
 use Rattle.std.proofs.lemmas.Iterator.Adapters.{position_from-zero}
 use Rattle.std.proofs.lemmas.Bool.{leb-true}
 use Rattle.tasks.specs.declared.task.Task.{Task}
-use Rattle.tasks.specs.Demand.{no_task}
 use Rattle.machine.specs.declared.state.State.{State}
 use Rattle.machine.specs.declared.state.State.TheVariants.{Idle}
 use Rattle.machine.specs.declared.state.Release.{Release}
@@ -20,9 +19,8 @@ use Rattle.machine.specs.Refusals.{tasks_allowed, horizon_allowed, releases_allo
 use Rattle.machine.proofs.Running.{allowed_tasks}
 use Rattle.machine.proofs.Separated.{near_fits}
 use Rattle.machine.proofs.Trace.{miss_is_first, none_before, length-states}
-use Rattle.machine.specs.Cursor.{no_release}
 use Rattle.machine.specs.Events.{fresh}
-use Rattle.traces.specs.Traces.{released_below, waiting, first_waiting, behind_commas, places_text, state_text, states_text, line_text, lines_below, Clear}
+use Rattle.traces.specs.Traces.{released_below, waiting, first_waiting, line_text, lines_below, Clear}
 
 -- the tick goes to the first place that waits once the releases have come
 module _ (rs : List Release) (t : ℕ) where

@@ -1,5 +1,5 @@
 -- The lines of a trace: one for each instant before the end of a run.
-use Rattle.std.specs.Prelude.{◌≡◌, ℕ, zero, suc, ◌<◌, ◌≤◌, Bool, true, false, cond, List, [], ◌∷◌, ◌++◌, length, Some, None, codes, decimal, Option}
+use Rattle.std.specs.Prelude.{◌≡◌, ℕ, zero, suc, ◌<◌, ◌≤◌, Bool, true, false, List, [], ◌∷◌, ◌++◌, length, Some, None, codes, decimal, Option}
 use Rattle.std.specs.List.{filter, flat_map, position, range_with_len}
 use Rattle.tasks.specs.declared.task.Task.{Task}
 use Rattle.machine.specs.declared.state.State.{State}

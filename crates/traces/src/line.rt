@@ -92,6 +92,9 @@ impl fmt::Display for Line<'_> {
         let released = Places(self.released);
         let served = OrDash(self.served.map(|place| place as u64));
         let states = States(self.states);
-        write!(f, "{instant} released {released} served {served} states{states}\n")
+        write!(
+            f,
+            "{instant} released {released} served {served} states{states}\n"
+        )
     }
 }

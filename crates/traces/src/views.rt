@@ -20,7 +20,9 @@ fn is_of(release: &Release, place: usize, instant: Ticks) -> bool
 fn is_due(releases: &[Release], place: usize, instant: Ticks) -> bool
     ensures { result ≡ due releases.now place instant.0 }
 {
-    releases.iter().any(|release| is_of(release, place, instant))
+    releases
+        .iter()
+        .any(|release| is_of(release, place, instant))
 }
 
 // The places, of so many, that are released now.
@@ -32,7 +34,9 @@ pub(crate) fn released_places(
 ) -> Result<Vec<usize>, AllocError>
     ensures { IfOk result (λ v. v.items ≡ released_below releases.now instant.0 count) }
 {
-    (0..count).filter(|place| is_due(releases, *place, instant)).collect(alloc)
+    (0..count)
+        .filter(|place| is_due(releases, *place, instant))
+        .collect(alloc)
 }
 
 // Whether a task waits.
@@ -53,10 +57,7 @@ fn will_wait(releases: &[Release], place: usize, instant: Ticks, state: State) -
 pub(crate) fn served_place(releases: &[Release], instant: Ticks, states: &[State]) -> Option<usize>
     ensures { result ≡ position (λ w. due releases.now w.0 instant.0 || waiting w.1) (enumerate_from 0 states.now) }
 {
-    states
-        .iter()
-        .enumerate()
-        .position(|(place, state)| will_wait(releases, place, instant, *state))
+    states.iter().enumerate().position(|(place, state)| will_wait(releases, place, instant, *state))
 }
 
 // The instant at which a run ends: that of its miss, or the horizon.
@@ -70,5 +71,4 @@ pub(crate) fn end_of(horizon: Ticks, miss: Option<Miss>) -> Ticks
 #[tactic(auto, using(crate::proofs::Turns::served_has_turn))]
 pub fn served_has_turn()
     ensures { ServedHasTurn }
-{
-}
+{}
