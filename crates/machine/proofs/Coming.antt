@@ -12,7 +12,7 @@ use Rattle.machine.specs.Events.{fresh}
 use Rattle.machine.specs.Cursor.{Cursor, Orderly, no_release}
 use Rattle.machine.specs.Moments.{is_now, deadline_fits, deadlines_fit}
 use Rattle.std.specs.List.{prefix_len}
-use Rattle.std.proofs.lemmas.List.Sums.{prefix_len_passes, prefix_len_stops, prefix_len-le-length}
+use Rattle.std.proofs.lemmas.List.Sums.{AllPass-from_list_all, prefix_len_passes, prefix_len_stops, prefix_len-le-length}
 use Rattle.std.proofs.lemmas.List.Folds.{length-prefix_len}
 
 -- the places that a list releases, element by element
@@ -167,9 +167,7 @@ module _ (ts : List Task) (rs : List Release) (t i : ℕ) (o : Orderly ts rs) (c
 
 -- a deadline from now fits at each place
 pub fits_at : (ts : List Task) (t k : ℕ) → deadlines_fit ts t ≡ true → k < length ts → t + (get_or ts k no_task).period.0 < 2 ^ 32
-fits_at [] t k h l = absurd (omega arith)
-fits_at (x ∷ ts) t zero h l = ltb-true (t + x.period.0) (2 ^ 32) (and_parts (deadline_fits t x) (deadlines_fit ts t) h).0
-fits_at (x ∷ ts) t (suc k) h l = fits_at ts t k (and_parts (deadline_fits t x) (deadlines_fit ts t) h).1 (omega arith)
+fits_at ts t k h l = ltb-true (t + (get_or ts k no_task).period.0) (2 ^ 32) (AllPass-from_list_all (deadline_fits t) ts h k no_task l)
 
 -- one turn of the loop over any release list: a release that is not now, or not of a task of the list, changes nothing
 

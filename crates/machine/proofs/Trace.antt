@@ -25,11 +25,6 @@ pub length-states : (ts : List Task) (rs : List Release) (n : ℕ) → length (s
 length-states ts rs zero = length-replicate (length ts) Idle
 length-states ts rs (suc n) = length-served (ready_at ts rs n) ∙ length-with rs n 0 ts (states_at ts rs n) ∙ length-states ts rs n
 
-pub idle_at : (n k : ℕ) → get_or (replicate n Idle) k Idle ≡ Idle
-idle_at zero k = refl
-idle_at (suc n) zero = refl
-idle_at (suc n) (suc k) = idle_at n k
-
 pub ready_is : (ts : List Task) (rs : List Release) (n p : ℕ) → p < length ts → get_or (ready_at ts rs n) p Idle ≡ cond (due rs p n) (fresh (get_or ts p no_task) n) (get_or (states_at ts rs n) p Idle)
 ready_is ts rs n p l = with_at_0 rs n p ts (states_at ts rs n) (length-states ts rs n) l
 
