@@ -7,12 +7,6 @@ use Rattle.machine.proofs.Coming.{with_none, any_comes, any_stays, fits_at}
 use Rattle.machine.proofs.instant.release_all.Goals as goal
 use Rattle.machine.proofs.instant.release_all.Goals.{then-is_due, else-is_due}
 
-pub with_job-requires : goal.with_job-requires
-with_job-requires c =
-    let r = get_or c.args.releases.now c.loop-release.release-index no_release in
-    let w = and_parts (eqb r.instant.0 c.args.instant.0) (ltb r.place (length c.args.tasks.now)) (sym c.if-is_due.ensures) in
-    fits_at c.args.tasks.now c.args.instant.0 r.place c.requires.fits (ltb-true r.place (length c.args.tasks.now) w.1)
-
 pub loop-release-init : goal.loop-release-init
 loop-release-init c = sym (with_none [] c.args.instant.0 0 c.args.tasks.now c.args.states.now (λ k. refl))
 
@@ -28,7 +22,3 @@ loop-release-preserved c =
           ∙ any_comes ts rs c.args.instant.0 c.args.states.now c.requires.sizes i c.loop-release-test.true ss c.loop-release.invariant w.if-is_due.ensures
       | else-is_due w ↦ w.states-is ∙ any_stays ts rs c.args.instant.0 c.args.states.now c.requires.sizes i c.loop-release-test.true ss c.loop-release.invariant w.if-is_due.ensures
     ]
-
-pub returns : goal.returns
-returns c =
-    c.loop-release.invariant ∙ ap (λ l. with_releases l c.args.instant.0 0 c.args.tasks.now c.args.states.now) (take_all c.loop-release.release-index c.args.releases.now (omega arith))
