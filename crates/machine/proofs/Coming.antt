@@ -1,5 +1,5 @@
 -- Releases that come one by one, and the cursor over them.
-use Rattle.std.proofs.Common.{◌≡◌, ℕ, zero, suc, ◌+◌, ◌-◌, ◌^◌, ◌<◌, ◌≤◌, Bool, true, false, cond, ◌&&◌, ◌||◌, eqb, ltb, List, [], ◌∷◌, ◌++◌, length, get_or, Some, None, take, drop, take_while, set, sym, refl, ap, ◌∙◌, inl, inr, add-zero, zero-add, arith}
+use Rattle.std.proofs.Common.{◌≡◌, ℕ, zero, suc, ◌+◌, ◌-◌, ◌<◌, ◌≤◌, Bool, true, false, cond, ◌&&◌, ◌||◌, eqb, ltb, List, [], ◌∷◌, ◌++◌, length, get_or, Some, None, take, drop, take_while, set, sym, refl, ap, ◌∙◌, inl, inr, add-zero, zero-add, arith}
 use Rattle.std.proofs.lemmas.List.{take_more, take-append-drop, length-take-le, length-drop, length-set, get_or-take, get_or-drop, get_or-set_same, get_or-set_other, ext_get_or}
 use Rattle.std.proofs.lemmas.Bool.{and_parts, and_cases, and_left, and_right, or_right, ltb-true, ltb-false, eqb-true, eqb-false, eq-eqb, ne_eqb, cases_eq, cases_lt, cond-true}
 use Rattle.tasks.specs.declared.task.Task.{Task}
@@ -10,9 +10,9 @@ use Rattle.machine.specs.declared.state.Release.{Release}
 use Rattle.machine.specs.Machine.{due, with_releases, first_missed, busy_tick, served, at_instant, missed, went}
 use Rattle.machine.specs.Events.{fresh}
 use Rattle.machine.specs.Cursor.{Cursor, Orderly, no_release}
-use Rattle.machine.specs.Moments.{is_now, deadline_fits, deadlines_fit}
+use Rattle.machine.specs.Moments.{is_now}
 use Rattle.std.specs.List.{prefix_len}
-use Rattle.std.proofs.lemmas.List.Sums.{AllPass-from_list_all, prefix_len_passes, prefix_len_stops, prefix_len-le-length}
+use Rattle.std.proofs.lemmas.List.Sums.{prefix_len_passes, prefix_len_stops, prefix_len-le-length}
 use Rattle.std.proofs.lemmas.List.Folds.{length-prefix_len}
 
 -- the places that a list releases, element by element
@@ -164,10 +164,6 @@ module _ (ts : List Task) (rs : List Release) (t i : ℕ) (o : Orderly ts rs) (c
         gone = λ k l. elim (cases_lt k i) [ inl z ↦ omega (arith, c.gone k z) | inr z ↦ omega (arith, counted_now k z (omega arith)) ];
         ahead = λ k a b. omega (arith, later k (omega arith) b);
       }
-
--- a deadline from now fits at each place
-pub fits_at : (ts : List Task) (t k : ℕ) → deadlines_fit ts t ≡ true → k < length ts → t + (get_or ts k no_task).period.0 < 2 ^ 32
-fits_at ts t k h l = ltb-true (t + (get_or ts k no_task).period.0) (2 ^ 32) (AllPass-from_list_all (deadline_fits t) ts h k no_task l)
 
 -- one turn of the loop over any release list: a release that is not now, or not of a task of the list, changes nothing
 

@@ -1,5 +1,5 @@
 -- The states of a run instant by instant, the end of the run, and one tick as one place sees it.
-use Rattle.std.proofs.Common.{◌≡◌, ℕ, zero, suc, ◌+◌, ◌<◌, ◌≤◌, Bool, true, false, cond, eqb, ◌⊎◌, List, [], ◌∷◌, length, get_or, replicate, Some, None, Option, sym, refl, ap, ◌∙◌, subst, inl, inr, zero-add, arith}
+use Rattle.std.proofs.Common.{◌≡◌, ℕ, zero, suc, ◌+◌, ◌<◌, ◌≤◌, Bool, true, false, cond, eqb, ◌⊎◌, List, [], ◌∷◌, length, get_or, Some, None, Option, sym, refl, ap, ◌∙◌, subst, inl, inr, zero-add, arith}
 use Rattle.std.proofs.lemmas.List.{length-replicate}
 use Rattle.std.proofs.lemmas.Bool.{eq-eqb, cases_lt}
 use Rattle.tasks.specs.declared.task.Task.{Task}
@@ -177,14 +177,3 @@ no_miss ts horizon rs h = go (outcome ts horizon rs).miss (miss_is_first ts hori
         let b = f.1 in
         let z : ◌≡◌ {A = ℕ} 0 1 = cc in
         absurd (omega arith)
-
--- late at an instant up to the horizon, and some miss is answered
-pub some_miss : (ts : List Task) (horizon : ℕ) (rs : List Release) (n p : ℕ) → n ≤ horizon → first_missed n 0 (states_at ts rs n) ≡ Some p → (m : Miss) × ((outcome ts horizon rs).miss ≡ Some m)
-some_miss ts horizon rs n p l e = go (outcome ts horizon rs).miss (miss_is_first ts horizon rs)
-  where
-    go : (o : Option Miss) → FirstMiss ts horizon rs o → (m : Miss) × (o ≡ Some m)
-    go None f =
-        let a = f n l in
-        let z : ◌≡◌ {A = ℕ} 0 1 = cc in
-        absurd (omega arith)
-    go (Some m) f = (m, refl)

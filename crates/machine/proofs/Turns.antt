@@ -1,6 +1,6 @@
 -- What one turn of each loop over the states keeps.
-use Rattle.std.proofs.Common.{◌≡◌, ℕ, ◌+◌, ◌<◌, ◌≤◌, List, [], ◌∷◌, ◌++◌, length, get_or, take, drop, set, Some, None, sym, refl, ap, ◌∙◌, add-one, arith}
-use Rattle.std.proofs.lemmas.List.{at_drop_more, append_assoc, take_more, drop_all, set_split, append-nil, take_all}
+use Rattle.std.proofs.Common.{◌≡◌, ℕ, ◌+◌, ◌<◌, List, [], ◌∷◌, ◌++◌, length, get_or, take, drop, set, Some, None, sym, refl, ap, ◌∙◌, add-one, arith}
+use Rattle.std.proofs.lemmas.List.{at_drop_more, append_assoc, take_more, set_split}
 use Rattle.machine.specs.declared.state.State.{State}
 use Rattle.machine.specs.declared.state.State.TheVariants.{Idle, Waiting}
 use Rattle.machine.specs.Machine.{served, busy_tick, worked}
@@ -43,9 +43,3 @@ module _ (ss : List State) (i : ℕ) (lt : i < length ss) where
         set_split ss i next lt ∙ ap (λ n. take i ss ++ next ∷ drop n ss) (sym (add-one i)) ∙ d.0 ∙ w.rest ∙ ap served w.same,
         sym d.1 ∙ w.busy ∙ ap busy_tick w.same,
       )
-
-pub seek_none : (ss : List State) (i : ℕ) → length ss ≤ i → (old : List State) → Seeking old ss i → (ss ≡ served old) × (0 ≡ busy_tick old)
-seek_none ss i le old w = (
-  sym (append-nil ss) ∙ sym (ap (λ l. l ++ served (drop i ss)) (take_all i ss le) ∙ ap (λ l. ss ++ served l) (drop_all i ss le)) ∙ w.rest ∙ ap served w.same,
-  sym (ap busy_tick (drop_all i ss le)) ∙ w.busy ∙ ap busy_tick w.same,
-)

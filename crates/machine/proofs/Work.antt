@@ -1,13 +1,12 @@
 -- The work of a run: what is released, what is done and what is left.
 use Rattle.std.proofs.Common.{◌≡◌, ℕ, All, zero, suc, ◌+◌, ◌-◌, ◌<◌, ◌≤◌, Bool, true, false, cond, ◌&&◌, ◌||◌, eqb, ltb, leb, ◌⊎◌, List, [], ◌∷◌, ◌++◌, length, get_or, set, replicate, sym, refl, ap, ◌∙◌, inl, inr, one-mul, arith}
 use Rattle.std.proofs.lemmas.List.Elements.{All-head, All-tail}
-use Rattle.std.proofs.lemmas.Bool.{and_parts, and_right, or_left, or_right, eqb-true, eq-eqb, ne_eqb, leb-true, leb-false, lt-ltb, le-ltb, cases_Bool, cases_order, cond_both, cond-true, cond-false}
+use Rattle.std.proofs.lemmas.Bool.{and_right, or_left, or_right, eqb-true, eq-eqb, ne_eqb, leb-true, lt-ltb, le-ltb, cases_Bool, cases_order, cond_both, cond-true, cond-false}
 use Rattle.tasks.specs.declared.task.Task.{Task}
 use Rattle.tasks.specs.declared.units.Ticks.{Ticks}
 use Rattle.tasks.specs.declared.units.Units.{Units}
 use Rattle.tasks.specs.Demand.{no_task}
-use Rattle.tasks.specs.Limits.{all_within, within_limits}
-use Rattle.tasks.proofs.Bounds.{limits}
+use Rattle.tasks.specs.Limits.{all_within}
 use Rattle.machine.specs.declared.state.State.{State}
 use Rattle.machine.specs.declared.state.State.TheVariants.{Idle, Waiting}
 use Rattle.machine.specs.declared.state.Release.{Release}

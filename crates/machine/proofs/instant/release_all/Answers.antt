@@ -1,9 +1,6 @@
-use Rattle.std.proofs.Common.{eqb, ltb, [], length, get_or, set, sym, refl, ap, ◌∙◌, arith}
-use Rattle.std.proofs.lemmas.List.{take_all}
-use Rattle.std.proofs.lemmas.Bool.{and_parts, ltb-true}
-use Rattle.machine.specs.Machine.{with_releases}
+use Rattle.std.proofs.Common.{[], get_or, set, sym, refl, ap, ◌∙◌}
 use Rattle.machine.specs.Cursor.{no_release}
-use Rattle.machine.proofs.Coming.{with_none, any_comes, any_stays, fits_at}
+use Rattle.machine.proofs.Coming.{with_none, any_comes, any_stays}
 use Rattle.machine.proofs.instant.release_all.Goals as goal
 use Rattle.machine.proofs.instant.release_all.Goals.{then-is_due, else-is_due}
 

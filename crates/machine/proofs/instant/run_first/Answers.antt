@@ -1,6 +1,5 @@
-use Rattle.std.proofs.lemmas.List.{set-get_or}
-use Rattle.std.proofs.Common.{refl, arith}
-use Rattle.machine.proofs.Turns.{seek_more, seek_found, seek_none}
+use Rattle.std.proofs.Common.{arith}
+use Rattle.machine.proofs.Turns.{seek_found}
 use Rattle.machine.proofs.instant.run_first.Goals as goal
 
 pub returns-in-Some : goal.returns-in-Some
