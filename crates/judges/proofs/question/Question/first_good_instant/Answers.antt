@@ -3,16 +3,8 @@ use Rattle.std.proofs.lemmas.Bool.{leb-true, leb-false}
 use Rattle.tasks.specs.Demand.{good}
 use Rattle.tasks.proofs.Goods.{good_from}
 use Rattle.tasks.proofs.Leasts.{none_further}
-use Rattle.judges.specs.Choosing.{choice_some, choice_none}
+use Rattle.judges.proofs.Chosen.{choice_some, choice_none}
 use Rattle.judges.proofs.question.Question.first_good_instant.Goals as goal
-
-pub loop-t-init : goal.loop-t-init
-loop-t-init c = (omega arith, λ u a b. absurd (omega arith))
-
-pub loop-t-preserved : goal.loop-t-preserved
-loop-t-preserved c =
-    let w = c.in-NotBefore.ensures in
-    (omega (arith, w.0), none_further (good c.args.self.now.task c.args.self.now.above.now) c.loop-t.t.0 c.in-NotBefore.later.0 c.loop-t.invariant.1 w.1)
 
 pub returns-in-Done : goal.returns-in-Done
 returns-in-Done c =

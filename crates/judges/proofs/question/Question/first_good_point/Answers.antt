@@ -11,7 +11,8 @@ use Rattle.tasks.proofs.Points.{point_parts}
 use Rattle.tasks.proofs.Leasts.{NoneBelow, none_further}
 use Rattle.judges.specs.Laws.{asked}
 use Rattle.judges.specs.Meanings.{good_point}
-use Rattle.judges.specs.Choosing.{asked_parts, choice_some, choice_none}
+use Rattle.judges.specs.Choosing.{asked_parts}
+use Rattle.judges.proofs.Chosen.{choice_some, choice_none}
 use Rattle.judges.proofs.Multiples.{NextPoint, next_own, next_more}
 use Rattle.judges.proofs.question.Question.first_good_point.Goals as goal
 
@@ -29,14 +30,6 @@ none_before x above from next n h = none_further (good_point x above) from next 
 
 pub loop-other-init : goal.loop-other-init
 loop-other-init c = next_own c.args.self.now.task c.points.from.0 c.points.invariant.0 (ltb-false c.args.self.now.task.period.0 c.points.from.0 (sym c.if-is_past.ensures))
-
-pub multiple_from-requires : goal.multiple_from-requires
-multiple_from-requires c =
-    let x = c.args.self.now.task in
-    let ys = c.args.self.now.above.now in
-    let o = other x ys c.loop-other.other-index c.args.self.now.asked c.loop-other-test.true in
-    let l = ltb-false x.period.0 c.points.from.0 (sym c.if-is_past.ensures) in
-    record { some = o.period_from; short = o.period_to; near = omega (arith, l, (limits x (asked_parts x ys c.args.self.now.asked).own).period_to) }
 
 pub loop-other-preserved : goal.loop-other-preserved
 loop-other-preserved c =
@@ -56,11 +49,6 @@ points-preserved c =
       omega (arith, w.0),
       none_further (good_point x ys) c.loop-other.next.0 c.in-NotBefore.later.0 (none_before x ys c.points.from.0 c.loop-other.next.0 n c.points.invariant.1) (λ u lo hi. and_right (point x ys u) (good x ys u) (w.1 u lo hi)),
     )
-
-pub points-smaller : goal.points-smaller
-points-smaller c =
-    let l = ltb-false c.args.self.now.task.period.0 c.points.from.0 (sym c.if-is_past.ensures) in
-    omega (arith, l, c.in-NotBefore.ensures.0, c.loop-other.invariant.not_before)
 
 pub returns-then-is_past : goal.returns-then-is_past
 returns-then-is_past c =
