@@ -1,8 +1,9 @@
 -- The least instant that passes a test, as the meaning of a judge.
-use Rattle.std.specs.Prelude.{◌≡◌, ℕ, suc, ◌≤◌, Bool, true, false, cond, ◌&&◌, leb, List, length, Some, None, nat_le}
+use Rattle.std.specs.Prelude.{◌≡◌, ℕ, suc, ◌≤◌, Bool, true, false, cond, leb, List, length, Some, None}
 use Rattle.std.proofs.Common.{sym, subst, ◌∙◌, inl, inr, arith}
 use Rattle.tasks.specs.Limits.{within_limits, all_within}
-use Rattle.std.proofs.lemmas.Bool.{cond-true, cond-false, cases_Bool, and_parts}
+use Rattle.std.proofs.lemmas.Bool.Decides.{nat_tests}
+use Rattle.std.proofs.lemmas.Bool.{cond-true, cond-false, cases_Bool}
 use Rattle.tasks.specs.declared.task.Task.{Task}
 use Rattle.tasks.specs.declared.units.Ticks.{Ticks}
 use Rattle.tasks.specs.Instants.{least}
@@ -16,10 +17,7 @@ pub record Asked (x : Task) (above : List Task) : Type 0 where
   pub others : all_within above ≡ true
 
 pub asked_parts : (x : Task) (above : List Task) → asked x above ≡ true → Asked x above
-asked_parts x above h =
-    let a = and_parts (nat_le (length above) 31) (within_limits x && all_within above) h in
-    let b = and_parts (within_limits x) (all_within above) a.1 in
-    record { few = a.0; own = b.0; others = b.1 }
+asked_parts x above h = record { few = grind (arith, nat_tests); own = grind (arith, nat_tests); others = grind (arith, nat_tests) }
 
 -- the least instant up to the period that passes a test, where it may be asked
 abbrev pub choice : (Task → List Task → ℕ → Bool) → Meaning

@@ -36,6 +36,7 @@ fn is_worst(one: Contender, other: Contender) -> bool
     one.load < other.load || (one.load == other.load && is_first(one, other))
 }
 
+// Each law is found anew at its impl, so that a relation that breaks it is refused there.
 impl Preference for FirstFit {
     ghost before = { λ _. first_fit };
 

@@ -5,7 +5,7 @@ use Rattle.std.proofs.lemmas.List.Elements.{All-weaker}
 use Rattle.std.proofs.lemmas.List.Sums.{AllPass-from_list_all}
 use Rattle.tasks.specs.declared.task.Task.{Task}
 use Rattle.tasks.specs.Units.{units_in, one_a_tick}
-use Rattle.tasks.specs.Limits.{period_allowed, work_allowed, within_limits, all_within}
+use Rattle.tasks.specs.Limits.{within_limits, all_within}
 
 pub record Limits (x : Task) : Type 0 where
   pub period_from : 1 ≤ x.period.0

@@ -1,14 +1,14 @@
 -- Good instants, part by part; and what a demand says of the instants after it.
-use Rattle.std.proofs.Common.{◌≡◌, ℕ, ◌<◌, ◌≤◌, true, false, ◌&&◌, leb, nat_le, List, [], ◌∷◌, inl, inr, arith}
+use Rattle.std.proofs.Common.{◌≡◌, ℕ, ◌<◌, ◌≤◌, true, false, leb, nat_le, List, [], ◌∷◌, inl, inr, arith}
 use Rattle.std.proofs.lemmas.Nat.{mul-le}
 use Rattle.std.proofs.lemmas.List.Elements.{All-weaker}
 use Rattle.std.proofs.lemmas.List.Sums.{list_all-from_AllPass}
 use Rattle.std.proofs.lemmas.Bool.Decides.{nat_tests}
-use Rattle.std.proofs.lemmas.Bool.{and_parts, and_from, leb-true, le-leb, cases_Bool}
+use Rattle.std.proofs.lemmas.Bool.{and_parts, leb-true, le-leb, cases_Bool}
 use Rattle.tasks.specs.declared.task.Task.{Task}
 use Rattle.tasks.specs.Rounding.{up}
 use Rattle.tasks.specs.Units.{units_in, one_a_tick}
-use Rattle.tasks.specs.Limits.{within_limits, all_within}
+use Rattle.tasks.specs.Limits.{all_within}
 use Rattle.tasks.specs.Demand.{work_before, demand, good, periods_exist}
 use Rattle.tasks.proofs.Roundings.{up_mono}
 use Rattle.tasks.proofs.Bounds.{Limits, all_limits}

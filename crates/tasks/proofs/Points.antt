@@ -1,10 +1,10 @@
 -- Scheduling points suffice: where a task has a good instant, one of its scheduling points is good.
-use Rattle.std.proofs.Common.{◌≡◌, ℕ, ◌*◌, ◌%◌, ◌≤◌, true, false, ◌&&◌, eqb, leb, All, List, [], ◌∷◌, inl, inr, one-mul, arith}
+use Rattle.std.proofs.Common.{◌≡◌, ℕ, ◌*◌, ◌≤◌, true, false, leb, All, List, [], ◌∷◌, inl, inr, one-mul, arith}
 use native.Mathlib.Nat.{mul-mod_left}
 use Rattle.std.proofs.lemmas.List.Elements.{All-nil, All-cons, All-head, All-tail, All-weaker}
 use Rattle.std.proofs.lemmas.Nat.{mul-le}
 use Rattle.std.proofs.lemmas.Bool.Decides.{nat_tests}
-use Rattle.std.proofs.lemmas.Bool.{and_parts, and_from, or_cases, or_left, or_right, leb-true, le-leb, eq-eqb, cases_Bool, cases_lt}
+use Rattle.std.proofs.lemmas.Bool.{and_parts, leb-true, cases_Bool, cases_lt}
 use Rattle.tasks.specs.declared.task.Task.{Task}
 use Rattle.tasks.specs.Rounding.{up}
 use Rattle.tasks.specs.Demand.{work_before, good, periods_exist}

@@ -40,7 +40,7 @@ impl Speed {
     }
 }
 
-// The work divided by the speed, rounded up.
+// The work divided by the speed, rounded up: apart from `over`, which takes a period, for the two never mix.
 #[tactic(auto, using(crate::proofs::Roundings::rounding))]
 fn ticks_over(work: Units, speed: Speed) -> u64
     requires { 1 ≤ speed.0 }

@@ -5,7 +5,7 @@ use Rattle.std.proofs.lemmas.Bool.{ltb-true, ltb-false, and_left, and_right, and
 use Rattle.tasks.specs.declared.task.Task.{Task}
 use Rattle.tasks.specs.Demand.{no_task, good}
 use Rattle.tasks.specs.Instants.{point}
-use Rattle.tasks.proofs.Bounds.{Limits, limits, all_limits}
+use Rattle.tasks.proofs.Bounds.{Limits, all_limits}
 use Rattle.tasks.proofs.Goods.{good_from}
 use Rattle.tasks.proofs.Points.{point_parts}
 use Rattle.tasks.proofs.Leasts.{NoneBelow, none_further}
