@@ -23,7 +23,7 @@ letter_named c p e = elim (cases_Bool (eqb c 70)) [
     | inl k ↦ eqb-true c 66 k ∙ ap letter_of (some_back Best p (sym (second c h k) ∙ e))
     | inr k ↦ elim (cases_Bool (eqb c 87)) [
       | inl m ↦ eqb-true c 87 m ∙ ap letter_of (some_back Worst p (sym (third c h k m) ∙ e))
-      | inr m ↦ let f = sym (fourth c h k m) ∙ e in let z : ◌≡◌ {A = ℕ} 0 1 = cc in absurd (omega arith)
+      | inr m ↦ let f = sym (fourth c h k m) ∙ e in absurd cc
     ]
   ]
 ]

@@ -1,16 +1,15 @@
 -- A record is read from the front exactly where its bytes stand there.
-use Rattle.std.proofs.Common.{◌≡◌, ℕ, suc, ◌+◌, ◌-◌, ◌*◌, ◌/◌, ◌%◌, ◌^◌, ◌<◌, Bool, true, false, not, ◌&&◌, cond, eqb, ltb, leb, List, [], ◌∷◌, ◌++◌, length, take, drop, Some, None, Ok, Err, Option, Result, sym, refl, ap, ◌∙◌, subst, inl, inr, arith}
+use Rattle.std.proofs.Common.{◌≡◌, ℕ, suc, ◌+◌, ◌-◌, ◌*◌, ◌/◌, ◌%◌, ◌^◌, ◌<◌, Bool, true, false, not, ◌&&◌, cond, eqb, ltb, leb, List, [], ◌∷◌, ◌++◌, length, take, drop, Some, None, Ok, Err, Option, sym, refl, ap, ◌∙◌, subst, inl, inr, arith}
 use Rattle.std.proofs.lemmas.List.{length-append, take_at, drop_at}
 use Rattle.std.proofs.lemmas.Iterator.Adapters.{position_from-zero}
 use Rattle.std.specs.List.{list_all, position_from}
 use Rattle.std.proofs.lemmas.Bool.{not_from_true, and_parts, and_from, cond-true, cond-false, le-leb, ltb-true, lt-ltb, eqb-true, eq-eqb, cases_Bool}
-use Rattle.rackfile.specs.declared.fault.RecordFault.{RecordFault}
 use Rattle.rackfile.specs.declared.fault.RecordFault.TheVariants.{Bytes, Tag, Label}
 use Rattle.rackfile.specs.Reading.{place_in, field, take_byte, take_word, take_part}
 use Rattle.rackfile.specs.Records.{Seen, admits, withdraws, printable, first_bad, length_allowed, then, next, judged, read_text, read_label, read_admission, read_withdrawal, read_record}
 use Rattle.rackfile.specs.Format.{word, record_bytes, record_allowed, all_placed}
 use Rattle.rackfile.specs.Exact.{AreBytes}
-use Rattle.rackfile.proofs.Undoing.{then_ok, next_ok, field_ok, cond-right, byte_back, word_back, part_back}
+use Rattle.rackfile.proofs.Undoing.{ok_same, then_ok, next_ok, field_ok, cond-right, byte_back, word_back, part_back}
 
 -- what was read of a label stood there
 pub record LabelBack (whole : ℕ) (s l : List ℕ) (place : ℕ) (r : List ℕ) : Type 0 where
@@ -28,7 +27,7 @@ printable_from at (x ∷ l) e = go (printable x) refl (printable_from (at + 1) l
     go : (b : Bool) → printable x ≡ b → (position_from (λ b. not (printable b)) (at + 1) l ≡ None → list_all printable l ≡ true)
         → cond {A = Option ℕ} (not b) (Some at) (position_from (λ b. not (printable b)) (at + 1) l) ≡ None → (printable x && list_all printable l) ≡ true
     go true is rest e = and_from (printable x) (list_all printable l) is (rest e)
-    go false is rest e = let z : ◌≡◌ {A = ℕ} 0 1 = cc in absurd (omega arith)
+    go false is rest e = absurd cc
 
 clean_from : (at : ℕ) (l : List ℕ) → list_all printable l ≡ true → position_from (λ b. not (printable b)) at l ≡ None
 clean_from at [] h = refl
@@ -43,11 +42,8 @@ none_bad : (l : List ℕ) → list_all printable l ≡ true → first_bad l ≡ 
 none_bad l h = position_from-zero (λ b. not (printable b)) l ∙ clean_from 0 l h
 
 judged_ok : (place : ℕ) (x : List ℕ × List ℕ) (bad : Option ℕ) (y : (List ℕ × ℕ) × List ℕ) → judged place x bad ≡ Ok y → (bad ≡ None) × (((x.0, place), x.1) ≡ y)
-judged_ok place x None y e = (refl, ok_back ((x.0, place), x.1) y e)
-  where
-    ok_back : (x y : (List ℕ × ℕ) × List ℕ) → ◌≡◌ {A = Result ((List ℕ × ℕ) × List ℕ) RecordFault} (Ok x) (Ok y) → x ≡ y
-    ok_back x y h = cc
-judged_ok place x (Some bad) y e = let z : ◌≡◌ {A = ℕ} 0 1 = cc in absurd (omega arith)
+judged_ok place x None y e = (refl, ok_same ((x.0, place), x.1) y e)
+judged_ok place x (Some bad) y e = absurd cc
 
 label_back : (whole : ℕ) (s l : List ℕ) (place : ℕ) (r : List ℕ) → AreBytes s → read_label whole s ≡ Ok ((l, place), r) → LabelBack whole s l place r
 label_back whole s l place r b e =
@@ -84,7 +80,7 @@ withdrawal_back whole at s v r b e =
     let w = then_ok Bytes (field whole (take_word s)) _ (v, r) e in
     let n = w.value.0 in
     let k = word_back s n w.value.1 b (field_ok whole (take_word s) w.value w.read) in
-    let same = pair_back (withdraws n, w.value.1) (v, r) w.on in
+    let same = ok_same (withdraws n, w.value.1) (v, r) w.on in
     let ev : withdraws n ≡ v = ap (λ z. z.0) same in
     let er : w.value.1 ≡ r = ap (λ z. z.1) same in
     subst (λ x. RecordBack at (87 ∷ s) x r) ev (record {
@@ -93,9 +89,6 @@ withdrawal_back whole at s v r b e =
       placed = λ vs h. h;
       rest = subst AreBytes er k.rest;
     })
-  where
-    pair_back : (x y : Seen × List ℕ) → ◌≡◌ {A = Result (Seen × List ℕ) RecordFault} (Ok x) (Ok y) → x ≡ y
-    pair_back x y h = cc
 
 admission_back : (whole at : ℕ) (s : List ℕ) (v : Seen) (r : List ℕ) → whole ≡ at + suc (length s) → AreBytes s → read_admission whole s ≡ Ok (v, r) → RecordBack at (65 ∷ s) v r
 admission_back whole at s v r here b e =
@@ -112,7 +105,7 @@ admission_back whole at s v r here b e =
     let l = w4.value.0.0 in
     let p = w4.value.0.1 in
     let kl = label_back whole w3.value.1 l p w4.value.1 kt.rest w4.read in
-    let same = pair_back (admits n c t l p, w4.value.1) (v, r) w4.on in
+    let same = ok_same (admits n c t l p, w4.value.1) (v, r) w4.on in
     let ev : admits n c t l p ≡ v = ap (λ z. z.0) same in
     let er : w4.value.1 ≡ r = ap (λ z. z.1) same in
     let whole-bytes : s ≡ word n ++ (word c ++ (word t ++ ((length l ∷ l) ++ r))) =
@@ -125,9 +118,6 @@ admission_back whole at s v r here b e =
       placed = λ vs h. and_from (eqb p (at + 14)) (all_placed (at + 14 + length l) vs) (eq-eqb p (at + 14) back) (let k : at + length (record_bytes (admits n c t l p)) ≡ at + 14 + length l = omega arith in subst (λ x. all_placed x vs ≡ true) k h);
       rest = subst AreBytes er kl.rest;
     })
-  where
-    pair_back : (x y : Seen × List ℕ) → ◌≡◌ {A = Result (Seen × List ℕ) RecordFault} (Ok x) (Ok y) → x ≡ y
-    pair_back x y h = cc
 
 pub record_back : (whole at : ℕ) (s : List ℕ) (v : Seen) (r : List ℕ) → whole ≡ at + length s → AreBytes s → read_record whole s ≡ Ok (v, r) → RecordBack at s v r
 record_back whole at s v r here b e =
