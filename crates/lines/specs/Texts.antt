@@ -4,9 +4,13 @@ use Rattle.rackfile.specs.Records.{length_allowed}
 use Rattle.lines.specs.declared.line.Line.{Line}
 use Rattle.lines.specs.declared.line.Line.TheVariants.{Admitted, NotAdmitted, Withdrawn, NotWithdrawn, Unreadable}
 
--- two numbers, a space before each
-abbrev pub fields_text : ℕ → ℕ → List ℕ
-fields_text first second = codes " " ++ (decimal first ++ (codes " " ++ decimal second))
+-- a space and a number
+abbrev pub field_text : ℕ → List ℕ
+field_text n = codes " " ++ decimal n
+
+-- a space, the letter R and a refusal's number
+abbrev pub refusal_text : ℕ → List ℕ
+refusal_text n = codes " R" ++ decimal n
 
 -- a line, with the bytes of its label
 pub data Seen : Type 0 where
@@ -23,13 +27,24 @@ seen_as (Withdrawn index number processor) = withdrawn_line index number process
 seen_as (NotWithdrawn index number refusal) = not_withdrawn_line index number refusal
 seen_as (Unreadable number place) = unreadable_line number place
 
--- `index A label processor instant`, `index A label Rn`, `index W number processor`, `index W number Rn`, `F number place`
+-- `index A label`, `index W number` or `F`
+abbrev pub head_text : Seen → List ℕ
+head_text (admitted_line index label processor instant) = decimal index ++ (codes " A " ++ label)
+head_text (not_admitted_line index label refusal) = decimal index ++ (codes " A " ++ label)
+head_text (withdrawn_line index number processor) = decimal index ++ (codes " W " ++ decimal number)
+head_text (not_withdrawn_line index number refusal) = decimal index ++ (codes " W " ++ decimal number)
+head_text (unreadable_line number place) = codes "F"
+
+-- and behind it ` processor instant`, ` Rn`, ` processor`, ` Rn` or ` number place`
+abbrev pub tail_text : Seen → List ℕ
+tail_text (admitted_line index label processor instant) = field_text processor ++ field_text instant
+tail_text (not_admitted_line index label refusal) = refusal_text refusal
+tail_text (withdrawn_line index number processor) = field_text processor
+tail_text (not_withdrawn_line index number refusal) = refusal_text refusal
+tail_text (unreadable_line number place) = field_text number ++ field_text place
+
 abbrev pub line_text : Seen → List ℕ
-line_text (admitted_line index label processor instant) = decimal index ++ (codes " A " ++ (label ++ (fields_text processor instant ++ codes "\n")))
-line_text (not_admitted_line index label refusal) = decimal index ++ (codes " A " ++ (label ++ (codes " R" ++ (decimal refusal ++ codes "\n"))))
-line_text (withdrawn_line index number processor) = decimal index ++ (codes " W " ++ (decimal number ++ (codes " " ++ (decimal processor ++ codes "\n"))))
-line_text (not_withdrawn_line index number refusal) = decimal index ++ (codes " W " ++ (decimal number ++ (codes " R" ++ (decimal refusal ++ codes "\n"))))
-line_text (unreadable_line number place) = codes "F" ++ (fields_text number place ++ codes "\n")
+line_text line = head_text line ++ (tail_text line ++ codes "\n")
 
 -- a line can be written if its label, where it has one, is from 1 to 16 bytes long
 abbrev pub writable : Seen → Bool

@@ -1,9 +1,10 @@
 // One line of the player.
-ghost use Rattle.std.specs.Prelude.{◌≡◌, true};
-ghost use Rattle.lines.specs.Texts.{seen_as, line_text, writable};
+ghost use Rattle.std.specs.Prelude.{◌≡◌, ◌+◌, ◌≤◌, ◌++◌, true, codes};
+ghost use Rattle.arrayvec.specs.ArrayVec.{array_vec_len};
+ghost use Rattle.lines.specs.Texts.{seen_as, head_text, tail_text, writable};
 ghost use Rattle.lines.specs.Writing.{Written};
 
-use crate::text::{Text, put, put_fields, put_number};
+use crate::text::{Text, put, put_field, put_fields, put_number, put_refusal};
 
 /// What a line says. All its numbers have 32 bits, so that the longest line has room in 64 bytes.
 #[derive(Clone, Copy, Debug, PartialEq, Eq)]
@@ -52,64 +53,47 @@ fn is_writable(line: Line<'_>) -> bool
     }
 }
 
-// The text of a line.
-fn text_of(line: Line<'_>) -> Text
+// What a line begins with.
+fn head(line: Line<'_>) -> Text
     requires { writable (seen_as line) ≡ true }
-    ensures { result.items ≡ line_text (seen_as line.entry) }
+    ensures items { result.items ≡ head_text (seen_as line.entry) }
+    ensures bound { array_vec_len result ≤ 29 }
 {
     let mut text = Text::new();
     match line {
+        Line::Admitted { index, label, .. } | Line::NotAdmitted { index, label, .. } => {
+            put_number(&mut text, index);
+            put(&mut text, b" A ");
+            put(&mut text, label);
+        }
+        Line::Withdrawn { index, number, .. } | Line::NotWithdrawn { index, number, .. } => {
+            put_number(&mut text, index);
+            put(&mut text, b" W ");
+            put_number(&mut text, number);
+        }
+        Line::Unreadable { .. } => put(&mut text, b"F"),
+    }
+    text
+}
+
+// What it ends with.
+fn put_tail(text: &mut Text, line: Line<'_>)
+    requires { array_vec_len text.old + 23 ≤ 64 }
+    ensures { text.new.items ≡ text.old.items ++ (tail_text (seen_as line.entry) ++ codes "\n") }
+{
+    match line {
         Line::Admitted {
-            index,
-            label,
             processor,
             instant,
-        } => {
-            put_number(&mut text, index);
-            put(&mut text, b" A ");
-            put(&mut text, label);
-            put_fields(&mut text, processor, instant);
+            ..
+        } => put_fields(text, processor, instant),
+        Line::Withdrawn { processor, .. } => put_field(text, processor),
+        Line::NotAdmitted { refusal, .. } | Line::NotWithdrawn { refusal, .. } => {
+            put_refusal(text, refusal)
         }
-        Line::NotAdmitted {
-            index,
-            label,
-            refusal,
-        } => {
-            put_number(&mut text, index);
-            put(&mut text, b" A ");
-            put(&mut text, label);
-            put(&mut text, b" R");
-            put_number(&mut text, refusal);
-        }
-        Line::Withdrawn {
-            index,
-            number,
-            processor,
-        } => {
-            put_number(&mut text, index);
-            put(&mut text, b" W ");
-            put_number(&mut text, number);
-            put(&mut text, b" ");
-            put_number(&mut text, processor);
-        }
-        Line::NotWithdrawn {
-            index,
-            number,
-            refusal,
-        } => {
-            put_number(&mut text, index);
-            put(&mut text, b" W ");
-            put_number(&mut text, number);
-            put(&mut text, b" R");
-            put_number(&mut text, refusal);
-        }
-        Line::Unreadable { number, place } => {
-            put(&mut text, b"F");
-            put_fields(&mut text, number, place);
-        }
+        Line::Unreadable { number, place } => put_fields(text, number, place),
     }
-    put(&mut text, b"\n");
-    text
+    put(text, b"\n");
 }
 
 /// Writes a line at the front of the buffer and answers its length, its last byte 0A counted; the rest of the buffer stays.
@@ -120,7 +104,8 @@ pub fn write_line(out: &mut [u8; 64], line: Line<'_>) -> usize
     if !is_writable(line) {
         return 0;
     }
-    let text = text_of(line);
+    let mut text = head(line);
+    put_tail(&mut text, line);
     let n = text.len();
     out[..n].copy_from_slice(&text);
     n

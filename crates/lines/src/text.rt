@@ -1,7 +1,7 @@
-// The text of a line while it is put together. It has room for every line that may be written, so no call allocates and none fails.
+// The text of a line while it is put together. Each call asks for the room that it fills, another with each, so none allocates and none fails.
 ghost use Rattle.std.specs.Prelude.{◌≡◌, ◌+◌, ◌≤◌, ◌++◌, length, decimal};
 ghost use Rattle.arrayvec.specs.ArrayVec.{array_vec_len};
-ghost use Rattle.lines.specs.Texts.{fields_text};
+ghost use Rattle.lines.specs.Texts.{field_text, refusal_text};
 
 use arrayvec::ArrayVec;
 use itoa::Buffer;
@@ -27,14 +27,32 @@ pub(crate) fn put_number(text: &mut Text, n: u32)
     put(text, Buffer::new().format(n).as_bytes());
 }
 
-// Two numbers, a space before each.
-pub(crate) fn put_fields(text: &mut Text, first: u32, second: u32)
-    requires { array_vec_len text.old + 22 ≤ 64 }
-    ensures items { text.new.items ≡ text.old.items ++ fields_text first second }
-    ensures bound { array_vec_len text.new ≤ array_vec_len text.old + 22 }
+// A number behind a space.
+pub(crate) fn put_field(text: &mut Text, n: u32)
+    requires { array_vec_len text.old + 11 ≤ 64 }
+    ensures items { text.new.items ≡ text.old.items ++ field_text n }
+    ensures bound { array_vec_len text.new ≤ array_vec_len text.old + 11 }
 {
     put(text, b" ");
-    put_number(text, first);
-    put(text, b" ");
-    put_number(text, second);
+    put_number(text, n);
+}
+
+// Two numbers, each behind a space.
+pub(crate) fn put_fields(text: &mut Text, first: u32, second: u32)
+    requires { array_vec_len text.old + 22 ≤ 64 }
+    ensures items { text.new.items ≡ text.old.items ++ (field_text first ++ field_text second) }
+    ensures bound { array_vec_len text.new ≤ array_vec_len text.old + 22 }
+{
+    put_field(text, first);
+    put_field(text, second);
+}
+
+// The number of a refusal, behind a space and the letter R.
+pub(crate) fn put_refusal(text: &mut Text, n: u32)
+    requires { array_vec_len text.old + 12 ≤ 64 }
+    ensures items { text.new.items ≡ text.old.items ++ refusal_text n }
+    ensures bound { array_vec_len text.new ≤ array_vec_len text.old + 12 }
+{
+    put(text, b" R");
+    put_number(text, n);
 }
