@@ -2,7 +2,7 @@
 use Rattle.std.proofs.Common.{◌≡◌, ℕ, zero, suc, ◌+◌, ◌*◌, ◌<◌, ◌≤◌, true, List, [], ◌∷◌, length, get_or, refl, ap, ◌∙◌, arith}
 use Rattle.std.specs.List.{remove}
 use Rattle.std.proofs.lemmas.Bool.{and_from, and_parts}
-use Rattle.std.proofs.lemmas.List.Sums.{sum_by-le, sum_by-insert, sum_by-remove}
+use Rattle.std.proofs.lemmas.List.Sums.{AllPass-from_list_all, sum_by-le, sum_by-insert, sum_by-remove}
 use Rattle.tasks.specs.declared.task.Task.{Task}
 use Rattle.tasks.specs.Limits.{within_limits, all_within}
 use Rattle.tasks.specs.Share.{share_of}
@@ -24,9 +24,7 @@ within_removed (y ∷ ys) zero k = grind arith
 within_removed (y ∷ ys) (suc i) k = grind (arith, within_removed ys i)
 
 pub within_each : (ts : List Task) → all_within ts ≡ true → (k : ℕ) (d : Task) → k < length ts → within_limits (get_or ts k d) ≡ true
-within_each [] a k d h = absurd (omega arith)
-within_each (y ∷ ys) a zero d h = (and_parts (within_limits y) (all_within ys) a).0
-within_each (y ∷ ys) a (suc k) d h = within_each ys (and_parts (within_limits y) (all_within ys) a).1 k d (omega arith)
+within_each ts h = AllPass-from_list_all within_limits ts h
 
 pub share_bound : (x : Task) → within_limits x ≡ true → share_of x ≤ 1000000
 share_bound x h =

@@ -5,7 +5,7 @@ ghost use Rattle.seating.specs.Admission.{bad_call, refusal_number};
 use super::refusal::AdmitRefusal;
 use tasks::Task;
 
-/// The first cause that shows in the sheet's length and the task alone.
+/// Looks for what needs no table. The error is the first cause that shows in the sheet's length and the task alone.
 pub fn bad_call(processors: usize, task: Task, entries: usize) -> Result<(), AdmitRefusal>
     ensures { refusal_number result ≡ bad_call processors task entries }
 {

@@ -43,6 +43,7 @@ pub enum QuestionRefusal {
     NoProcessor = 10,
 }
 
+// One line for each enum: a trait with a law for the four is no plainer, and callers would have to import it.
 impl MakeRefusal {
     /// The number of the refusal.
     pub fn number(&self) -> u32
