@@ -18,7 +18,7 @@ use Rattle.seating.proofs.Answering.{admits_some, withdraws_some}
 use Rattle.seating.proofs.Once.{admits_once}
 use Rattle.seating.proofs.WithdrawOnce.{withdraws_once}
 use Rattle.seating.proofs.Numbering.{is_seated_there, one_list, one_place}
-use Rattle.book.specs.Book.{Book, Event, admits, withdraws, finds, loads, lists, after, Rules, Right, AtMoment}
+use Rattle.book.specs.Book.{Book, Event, admits, withdraws, finds, after, Rules, Right, AtMoment}
 use Rattle.book.specs.Answers.{One, OneRightAnswer}
 use Rattle.book.proofs.Following.{written}
 

@@ -7,5 +7,4 @@ ghost use Rattle.book.specs.Answers.{OneRightAnswer};
 #[tactic(auto, using(crate::proofs::Single::one_right_answer))]
 pub fn one_right_answer()
     ensures { OneRightAnswer }
-{
-}
+{}
