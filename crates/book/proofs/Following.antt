@@ -1,5 +1,7 @@
 -- Of each call: lists that follow its rules are the book after it, and what is claimed of it holds.
-use Rattle.std.proofs.Common.{◌≡◌, ℕ, true, List, [], get_or, set, Some, None, Ok, Err, Option, refl, ap, ◌∙◌, subst, inl, inr, arith}
+use Rattle.std.proofs.Common.{◌≡◌, true, List, [], get_or, set, Ok, Err, sym, refl, ap, ◌∙◌, subst, inl, inr}
+use Rattle.std.proofs.lemmas.Bool.{true≢false}
+use Rattle.std.proofs.lemmas.Option.{none-some}
 use Rattle.judges.specs.Laws.{Meaning}
 use Rattle.preferences.specs.Laws.{Relation}
 use Rattle.seating.specs.declared.seat.Seat.{Seat}
@@ -19,12 +21,9 @@ module _ (meaning : Meaning) (before : Relation) (b b' : Book) (differ : all_dif
   written (loads p a) f = f.1
   written (lists p a) f = f.1
 
-  never : {X : Type 0} (o : Option X) (x : X) → o ≡ None → o ≡ Some x → ⊥
-  never o x p q = let z : ◌≡◌ {A = ℕ} 0 1 = cc in omega arith
-
   turned : (e : Event) → Rules meaning before b e b' → TurnedAwayExactly b e
-  turned (admits x sheet (Ok a) sheet') g = λ passes. (λ h. absurd (let z : ◌≡◌ {A = ℕ} 0 1 = cc in omega arith), λ fails. absurd (fails a.0 (record { there = g.preferred.there; free = g.preferred.takes.room }) g.preferred.takes.fits))
-  turned (admits x sheet (Err e) sheet') (inl r) = λ passes. absurd (never _ _ passes r.cause)
+  turned (admits x sheet (Ok a) sheet') g = λ passes. (λ h. absurd (true≢false (sym h)), λ fails. absurd (fails a.0 (record { there = g.preferred.there; free = g.preferred.takes.room }) g.preferred.takes.fits))
+  turned (admits x sheet (Err e) sheet') (inl r) = λ passes. absurd (none-some _ (sym passes ∙ r.cause))
   turned (admits x sheet (Err e) sheet') (inr r) = λ passes. (λ _ p free fits. r.1.nobody p free.there (record { room = free.free; fits = fits }), λ _. refl)
   turned (withdraws n a) l = tt
   turned (finds n a) f = tt
