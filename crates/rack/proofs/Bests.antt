@@ -66,11 +66,11 @@ module _ (mean : Meaning) (bef : Relation) (laws : PreferenceLaws bef) (b : List
       (λ (other : q ≡ o.contender.number → ⊥). laws.chains (as_seen b p) o.contender (as_seen b q) e (h.3 q lt other w))
       (cases_eq q o.contender.number)))
       (λ e. (
-      omega (arith, h.0),
-      h.1,
-      h.2,
-      below_more (λ (q : ℕ). (q ≡ o.contender.number → ⊥) → Willing mean x (on b q) → bef o.contender (as_seen b q) ≡ true) p h.3
-          (λ ne w. laws.one_of_two o.contender (as_seen b p) (λ same. ne (sym same)) ∙ not_from_false _ e),
+        omega (arith, h.0),
+        h.1,
+        h.2,
+        below_more (λ (q : ℕ). (q ≡ o.contender.number → ⊥) → Willing mean x (on b q) → bef o.contender (as_seen b q) ≡ true) p h.3
+            (λ ne w. laws.one_of_two o.contender (as_seen b p) (λ same. ne (sym same)) ∙ not_from_false _ e),
       ))
 
 -- the choice of one processor more

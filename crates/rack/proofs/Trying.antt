@@ -30,12 +30,14 @@ module _ (mean : Meaning) (x : Task) (ss : List Seat) (place : ℕ) (at : place 
   }
 
   pub declines : (d : Declined) → Judged mean (joined x (tasks_of ss)) place (Err d) → Declines mean x ss d
-  declines d (n, is, none) = subst (λ (e : Declined). Declines mean x ss e) (sym is)
-      (room, record {
-        at = none.at;
-        below = omega (arith, none.below);
-        within = omega (arith, none.within, long);
-        none = none.none;
-        number = none.number;
-        before = λ k lo hi. none.before k (omega arith) hi;
-      })
+  declines d (n, is, none) = subst (λ (e : Declined). Declines mean x ss e) (sym is) (
+    room,
+    record {
+      at = none.at;
+      below = omega (arith, none.below);
+      within = omega (arith, none.within, long);
+      none = none.none;
+      number = none.number;
+      before = λ k lo hi. none.before k (omega arith) hi;
+    },
+  )

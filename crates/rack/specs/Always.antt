@@ -13,12 +13,12 @@ use Rattle.seating.specs.Withdrawal.{Withdraws}
 use Rattle.rack.specs.Table.{Table, Sound}
 
 -- Whatever is asked of it, there is exactly one answer, sheet and table that the relation of the call allows.
-pub record OneAdmission (mean : Meaning) (bef : Relation) (b : Lists) (x : Task) (sheet : List ℕ) : Type 0 where
+pub record OneAdmission (meaning : Meaning) (before : Relation) (b : Lists) (x : Task) (sheet : List ℕ) : Type 0 where
   pub answer : Result (ℕ × Ticks) AdmitRefusal
   pub sheet_after : List ℕ
   pub lists_after : Lists
-  pub allowed : Admits mean bef b x sheet answer sheet_after lists_after
-  pub only : (a : Result (ℕ × Ticks) AdmitRefusal) (s : List ℕ) (c : Lists) → Admits mean bef b x sheet a s c → (a ≡ answer) × (s ≡ sheet_after) × (c ≡ lists_after)
+  pub allowed : Admits meaning before b x sheet answer sheet_after lists_after
+  pub only : (a : Result (ℕ × Ticks) AdmitRefusal) (s : List ℕ) (c : Lists) → Admits meaning before b x sheet a s c → (a ≡ answer) × (s ≡ sheet_after) × (c ≡ lists_after)
 
 pub record OneWithdrawal (b : Lists) (n : ℕ) : Type 0 where
   pub answer : Result (ℕ × Units × Ticks) WithdrawRefusal
@@ -26,8 +26,8 @@ pub record OneWithdrawal (b : Lists) (n : ℕ) : Type 0 where
   pub allowed : Withdraws b n answer lists_after
   pub only : (a : Result (ℕ × Units × Ticks) WithdrawRefusal) (c : Lists) → Withdraws b n a c → (a ≡ answer) × (c ≡ lists_after)
 
-module _ {J P : Type 0} (mean : J → Meaning) (bef : P → Relation) where
+module _ {J P : Type 0} (meaning : J → Meaning) (before : P → Relation) where
   pub record Always (r : Table J P) : Type 0 where
     pub sound : Sound r.lists
-    pub one_admission : (x : Task) (sheet : List ℕ) → OneAdmission (mean r.judge) (bef r.preference) r.lists x sheet
+    pub one_admission : (x : Task) (sheet : List ℕ) → OneAdmission (meaning r.judge) (before r.preference) r.lists x sheet
     pub one_withdrawal : (n : ℕ) → OneWithdrawal r.lists n

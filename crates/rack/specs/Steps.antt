@@ -20,12 +20,12 @@ use Rattle.book.specs.Book.{Event, admits, withdraws, finds, loads, lists, MainC
 use Rattle.rack.specs.declared.blank.Blank.{Blank}
 use Rattle.rack.specs.Table.{Table}
 
-module _ {J P : Type 0} (mean : J → Meaning) (bef : P → Relation) where
+module _ {J P : Type 0} (meaning : J → Meaning) (before : P → Relation) where
   pub record AdmitStep (r : Table J P) (x : Task) (sheet : List ℕ) (answer : Result (ℕ × Ticks) AdmitRefusal) (sheet' : List ℕ) (s : Table J P) : Type 0 where
-    pub admits : Admits (mean r.judge) (bef r.preference) r.lists x sheet answer sheet' s.lists
+    pub admits : Admits (meaning r.judge) (before r.preference) r.lists x sheet answer sheet' s.lists
     pub processors : length s.lists ≡ length r.lists
-    pub judge : mean s.judge ≡ mean r.judge
-    pub preference : bef s.preference ≡ bef r.preference
+    pub judge : meaning s.judge ≡ meaning r.judge
+    pub preference : before s.preference ≡ before r.preference
     -- a refusal leaves all seats
     pub lists_stay : (e : AdmitRefusal) → answer ≡ Err e → s.lists ≡ r.lists
     -- at a cause before 8 nobody is asked: the whole rack is as it was
@@ -61,7 +61,7 @@ module _ {J P : Type 0} (mean : J → Meaning) (bef : P → Relation) where
     pub processors : length r.lists ≡ m
     pub judge : r.judge ≡ j
     pub preference : r.preference ≡ p
-    pub whole_life : (es : List Event) → Run r es → MainClaim (mean j) (bef p) m es
+    pub whole_life : (es : List Event) → Run r es → MainClaim (meaning j) (before p) m es
 
 -- a blank, exactly if m is 0 or above 16
 pub record Blanks {J P : Type 0} (m : ℕ) (j : J) (p : P) (blank : Blank J P) : Type 0 where
@@ -71,8 +71,8 @@ pub record Blanks {J P : Type 0} (m : ℕ) (j : J) (p : P) (blank : Blank J P) :
   pub preference : blank.preference ≡ p
 
 abbrev pub MakeStep : {J P : Type 0} → (J → Meaning) → (P → Relation) → ℕ → J → P → Result (Table J P) (Blank J P) → Type 0
-MakeStep mean bef m j p (Ok r) = Makes mean bef m j p r
-MakeStep mean bef m j p (Err blank) = Blanks m j p blank
+MakeStep meaning before m j p (Ok r) = Makes meaning before m j p r
+MakeStep meaning before m j p (Err blank) = Blanks m j p blank
 
 -- the seats shown, as a list
 abbrev pub shown : Result (Bor (List Seat)) QuestionRefusal → Result (List Seat) QuestionRefusal

@@ -19,20 +19,20 @@ abbrev pub entry_of : Declined → ℕ
 entry_of Full = 0
 entry_of (Unfit n) = n
 
-module _ (mean : Meaning) where
+module _ (meaning : Meaning) where
   -- each task from `from` on has the instant that the judge says
   pub record AllSaid (ts : List Task) (from : ℕ) (instants : List Ticks) : Type 0 where
     pub count : length instants ≡ length ts - from
-    pub each : (k : ℕ) → from ≤ k → k < length ts → said mean ts k ≡ Some (slice_index_or instants (k - from) no_ticks)
+    pub each : (k : ℕ) → from ≤ k → k < length ts → said meaning ts k ≡ Some (slice_index_or instants (k - from) no_ticks)
 
   -- n is the number of the first from there on of which it says none
   pub record NoneAt (ts : List Task) (from n : ℕ) : Type 0 where
     pub at : ℕ
     pub below : from ≤ at
     pub within : at < length ts
-    pub none : said mean ts at ≡ None
+    pub none : said meaning ts at ≡ None
     pub number : n ≡ (get_or ts at no_task).number
-    pub before : (k : ℕ) → from ≤ k → k < at → (t : Ticks) × (said mean ts k ≡ Some t)
+    pub before : (k : ℕ) → from ≤ k → k < at → (t : Ticks) × (said meaning ts k ≡ Some t)
 
   abbrev pub Judged : List Task → ℕ → Result (ArrayVec Ticks) Declined → Type 0
   Judged ts from (Ok instants) = AllSaid ts from instants.items
@@ -43,12 +43,12 @@ module _ (mean : Meaning) where
     pub room : length ss < 32
     pub place : t.place ≡ place_of x (tasks_of ss)
     pub count : t.place + length t.instants.items ≡ length ss + 1
-    pub each : (k : ℕ) → t.place ≤ k → k < length ss + 1 → said mean (joined x (tasks_of ss)) k ≡ Some (slice_index_or t.instants.items (k - t.place) no_ticks)
+    pub each : (k : ℕ) → t.place ≤ k → k < length ss + 1 → said meaning (joined x (tasks_of ss)) k ≡ Some (slice_index_or t.instants.items (k - t.place) no_ticks)
 
   -- it does not, and that is why
   abbrev pub Declines : Task → List Seat → Declined → Type 0
   Declines x ss Full = 32 ≤ length ss
-  Declines x ss (Unfit n) = (length ss < 32) × FirstNone mean x ss n
+  Declines x ss (Unfit n) = (length ss < 32) × FirstNone meaning x ss n
 
   abbrev pub Tried : Task → List Seat → Result Trial Declined → Type 0
   Tried x ss (Ok t) = Took x ss t

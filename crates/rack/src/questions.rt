@@ -26,10 +26,7 @@ impl<J: Judge, P: Preference> Rack<J, P> {
         ensures step { Step J.meaning P.before self.now (loads p result) self.now }
         ensures sound { Sound self.now.lists }
     {
-        let processor = self
-            .processors
-            .get(p)
-            .ok_or(QuestionRefusal::NoProcessor)?;
+        let processor = self.processors.get(p).ok_or(QuestionRefusal::NoProcessor)?;
         Ok(processor.load())
     }
 
@@ -38,10 +35,7 @@ impl<J: Judge, P: Preference> Rack<J, P> {
         ensures step { Step J.meaning P.before self.now (lists p (shown result)) self.now }
         ensures sound { Sound self.now.lists }
     {
-        let processor = self
-            .processors
-            .get(p)
-            .ok_or(QuestionRefusal::NoProcessor)?;
+        let processor = self.processors.get(p).ok_or(QuestionRefusal::NoProcessor)?;
         Ok(processor.seats())
     }
 

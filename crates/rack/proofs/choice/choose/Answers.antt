@@ -18,16 +18,16 @@ loop-p-preserved g c =
     let seen : get_or ps p [] ≡ c.seats.result.now = here ∙ sym c.seats.ensures.list in
     elim c.match-try_on.branch [
       | in-Ok w ↦ record {
-          chosen = offered mean bef laws ps c.args.newcomer p c.seats.result.now seen (g.J.Judge.meaning c.loop-p.judge) inv.judge c.loop-p.choice inv.chosen
-              (g.P.Preference.before c.loop-p.preference) w.in-Ok.trial w.new-in-Ok.result c.match-try_on.choice inv.preference
-              (w.new-in-Ok.ensures ∙ ap (λ (l : List Seat). record { contender = seen_with l p; trial = w.in-Ok.trial }) (sym c.seats.ensures.list)) (w.choice-is ∙ w.offer.ensures.best) w.in-Ok.ensures.tried;
-          judge = c.try_on.ensures.same ∙ inv.judge;
-          preference = ap g.P.Preference.before w.preference-is ∙ w.offer.ensures.same ∙ inv.preference;
-        }
+        chosen = offered mean bef laws ps c.args.newcomer p c.seats.result.now seen (g.J.Judge.meaning c.loop-p.judge) inv.judge c.loop-p.choice inv.chosen
+            (g.P.Preference.before c.loop-p.preference) w.in-Ok.trial w.new-in-Ok.result c.match-try_on.choice inv.preference
+            (w.new-in-Ok.ensures ∙ ap (λ (l : List Seat). record { contender = seen_with l p; trial = w.in-Ok.trial }) (sym c.seats.ensures.list)) (w.choice-is ∙ w.offer.ensures.best) w.in-Ok.ensures.tried;
+        judge = c.try_on.ensures.same ∙ inv.judge;
+        preference = ap g.P.Preference.before w.preference-is ∙ w.offer.ensures.same ∙ inv.preference;
+      }
       | in-Err w ↦ record {
-          chosen = declined mean bef laws ps c.args.newcomer p c.seats.result.now seen (g.J.Judge.meaning c.loop-p.judge) inv.judge c.loop-p.choice inv.chosen
-              w.in-Err.declined w.entry.result w.push.new.self c.match-try_on.choice w.entry.ensures w.push.ensures.items w.choice-is w.in-Err.ensures.tried;
-          judge = c.try_on.ensures.same ∙ inv.judge;
-          preference = ap g.P.Preference.before w.preference-is ∙ inv.preference;
-        }
+        chosen = declined mean bef laws ps c.args.newcomer p c.seats.result.now seen (g.J.Judge.meaning c.loop-p.judge) inv.judge c.loop-p.choice inv.chosen
+            w.in-Err.declined w.entry.result w.push.new.self c.match-try_on.choice w.entry.ensures w.push.ensures.items w.choice-is w.in-Err.ensures.tried;
+        judge = c.try_on.ensures.same ∙ inv.judge;
+        preference = ap g.P.Preference.before w.preference-is ∙ inv.preference;
+      }
     ]

@@ -11,7 +11,9 @@ returns-in_err-instant g c =
     let none = ok_or_err c.ask.result _ c.in_err-instant.field-0.0 (sym c.ok_or.ensures.value ∙ c.in_err-instant.was) in
     rw (p.1, p.2) (record {
       judged = (
-        _, none.1, record {
+        _,
+        none.1,
+        record {
           at = c.loop-i.i;
           below = c.loop-i.auto.i;
           within = omega arith;

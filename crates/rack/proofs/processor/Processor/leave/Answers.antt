@@ -6,7 +6,6 @@ use Rattle.tasks.specs.Share.{share_of}
 use Rattle.tasks.specs.Demand.{no_task}
 use Rattle.seating.specs.declared.seat.Seat.{Seat}
 use Rattle.seating.specs.Seats.{tasks_of, load_of, no_seat}
-
 use Rattle.seating.proofs.Keeping.{tasks_removed}
 use Rattle.seating.proofs.Limiting.{load_removed, within_each, within_removed}
 use Rattle.seating.proofs.Placing.{length-tasks}

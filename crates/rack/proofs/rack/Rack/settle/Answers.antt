@@ -31,7 +31,7 @@ invariant_of-self g c =
     let is = ap (λ (t : Table g.row.J.Denot g.row.P.Denot). t.lists) c.self.view_is in
     let best = subst (λ (o : Option Taker). Best mean bef r.lists c.args.newcomer (length r.lists) es o) c.in-Some.is c.requires.chosen.best in
     still_sound mean (g.met.J.Judge.lawful r.judge) bef r.lists (subst Sound is c.self.invariant) c.args.newcomer c.args.sheet.now c.requires.passes es c.in-Some.taker best
-        c.self.inside.processors.items c.deref_mut.result.now is c.deref_mut.ensures.value c.index-deref_mut-p.result c.join.new.self c.join.ensures
+    c.self.inside.processors.items c.deref_mut.result.now is c.deref_mut.ensures.value c.index-deref_mut-p.result c.join.new.self c.join.ensures
 
 pub returns : goal.returns
 returns g c =
