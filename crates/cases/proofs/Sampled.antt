@@ -1,5 +1,5 @@
 -- A whole file: what its bytes stand for, the answers that are right, and the lines.
-use Rattle.std.proofs.Common.{◌≡◌, ℕ, zero, suc, ◌<◌, ◌≤◌, true, [], ◌∷◌, get_or, Some, Ok, Err, refl, inr, arith, lit≤}
+use Rattle.std.proofs.Common.{◌≡◌, ℕ, zero, suc, ◌<◌, true, [], ◌∷◌, get_or, Some, Ok, Err, refl, inr, arith, lit≤}
 use Rattle.std.specs.List.{AllByRecursion}
 use Rattle.std.specs.Fmt.{digits}
 use Rattle.std.proofs.lemmas.Bool.{both_ways, lt-ltb}
@@ -109,14 +109,17 @@ entries = of_two (λ q. Entry big (on book_3 q) (get_or written_sheet q 0))
     (inr (lit≤ tt, record { at = 1; within = lit≤ tt; unfit = big_unfit_1; before = fits_one; number = refl }))
 
 right_3 : Right least_good_point first_fit book_3 (admits big blank_sheet (Err NoTaker) written_sheet)
-right_3 = inr (refl, record {
-  passes = refl;
-  nobody = of_two (λ q. WouldTake big (on book_3 q) → ⊥) (λ w. big_unfit (w.fits 2 (lit≤ tt))) (λ w. big_unfit_1 (w.fits 1 (lit≤ tt)));
-  entries = entries;
-  as_long = refl;
-  rest = refl;
-  seats_stay = refl;
-})
+right_3 = inr (
+  refl,
+  record {
+    passes = refl;
+    nobody = of_two (λ q. WouldTake big (on book_3 q) → ⊥) (λ w. big_unfit (w.fits 2 (lit≤ tt))) (λ w. big_unfit_1 (w.fits 1 (lit≤ tt)));
+    entries = entries;
+    as_long = refl;
+    rest = refl;
+    seats_stay = refl;
+  },
+)
 
 right_4 : Right least_good_point first_fit book_3 (withdraws 2 (Ok (0, record { 0 = 4 }, record { 0 = 10 })))
 right_4 = record { at = 1; sits = record { there = lit≤ tt; within = lit≤ tt; number = refl }; its_work = refl; its_period = refl; seats = refl }

@@ -8,5 +8,4 @@ ghost use Rattle.cases.specs.Cases.{Settled, cases};
 #[tactic(auto, using(crate::proofs::Worked::all_settled))]
 pub fn worked_cases_hold()
     ensures { All Settled cases }
-{
-}
+{}
