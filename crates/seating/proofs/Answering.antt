@@ -48,6 +48,9 @@ has_name false false true true false false n h = absurd (none-some n h)
 passes_parts : (b₁ b₂ b₃ b₄ b₅ b₆ : Bool) → chain b₁ b₂ b₃ b₄ b₅ b₆ ≡ None → (b₁ ≡ false) × (b₃ ≡ true) × (b₄ ≡ true)
 passes_parts b₁ b₂ b₃ b₄ b₅ b₆ h = (grind arith, grind arith, grind arith)
 
+below_next : (P : ℕ → Type 0) (k : ℕ) → ((q : ℕ) → q < k → P q) → P k → (q : ℕ) → q < suc k → P q
+below_next P k all here q lt = ⊎_elim (λ (l : q < k). all q l) (λ (ge : k ≤ q). let same : k ≡ q = omega arith in subst P same here) (cases_lt q k)
+
 -- one processor would take x, or the sheet has something to say of it
 module _ (meaning : Meaning) (laws : JudgeLaws meaning) (x : Task) (own : within_limits x ≡ true) (ss : List Seat) (held : Kept ss) where
   abbrev all : List Task
@@ -59,12 +62,11 @@ module _ (meaning : Meaning) (laws : JudgeLaws meaning) (x : Task) (own : within
   place_in : place ≤ length ss
   place_in = omega (arith, place_le x (tasks_of ss), length-tasks ss)
 
-  walk : (d k : ℕ) → k + d ≡ length ss + 1 → place ≤ k → ((j : ℕ) → place ≤ j → j < k → Given meaning x ss j) → AllGiven meaning x ss ⊎ ((n : ℕ) × FirstNone meaning x ss n)
-  walk zero k e lo before = inl (λ j a b. before j a (omega arith))
-  walk (suc d) k e lo before = ⊎_elim
-      (λ (s : Given meaning x ss k). walk d (suc k) (omega arith) (omega arith) (λ j a b. ⊎_elim
-      (λ (lt : j < k). before j a lt) (λ (ge : k ≤ j). let same : k ≡ j = omega arith in subst (λ (i : ℕ). Given meaning x ss i) same s) (cases_lt j k)))
-      (λ (u : said meaning all k ≡ None). inr ((get_or all k no_task).number, record { at = k; below = lo; within = omega arith; none = u; number = refl; before = before }))
+  walk : (d k : ℕ) → k + d ≡ length ss + 1 → place ≤ k → ((j : ℕ) → j < k → place ≤ j → Given meaning x ss j) → AllGiven meaning x ss ⊎ ((n : ℕ) × FirstNone meaning x ss n)
+  walk zero k e lo given = inl (λ j a b. given j (omega arith) a)
+  walk (suc d) k e lo given = ⊎_elim
+      (λ (s : Given meaning x ss k). walk d (suc k) (omega arith) (omega arith) (below_next (λ j. place ≤ j → Given meaning x ss j) k given (λ _. s)))
+      (λ (u : said meaning all k ≡ None). inr ((get_or all k no_task).number, record { at = k; below = lo; within = omega arith; none = u; number = refl; before = λ j a b. given j b a }))
       (some_or_none (said meaning all k))
 
   decide : WouldTake x ss ⊎ ((n : ℕ) × Entry x ss n)
@@ -137,44 +139,40 @@ module _ (meaning : Meaning) (laws : JudgeLaws meaning) (before : Relation) (pre
   abbrev AllRefuse : ℕ → Type 0
   AllRefuse k = (q : ℕ) → q < k → (n : ℕ) × Entry x (on b q) n
 
+  abbrev Before : ℕ → ℕ → Type 0
+  Before p q = (q ≡ p → ⊥) → WouldTake x (on b q) → before (as_seen b p) (as_seen b q) ≡ true
+
   record FirstOf (k : ℕ) : Type 0 where
     p : ℕ
     within : p < k
     takes : WouldTake x (on b p)
-    first : (q : ℕ) → q < k → (q ≡ p → ⊥) → WouldTake x (on b q) → before (as_seen b p) (as_seen b q) ≡ true
+    first : (q : ℕ) → q < k → Before p q
 
   one_more : (k : ℕ) → AllRefuse k ⊎ FirstOf k → WouldTake x (on b k) ⊎ ((n : ℕ) × Entry x (on b k) n) → AllRefuse (suc k) ⊎ FirstOf (suc k)
-  one_more k (inl none) (inr e) = inl (λ q lt. ⊎_elim (λ (l : q < k). none q l) (λ (ge : k ≤ q). let same : k ≡ q = omega arith in subst (λ (i : ℕ). (n : ℕ) × Entry x (on b i) n) same e) (cases_lt q k))
+  one_more k (inl none) (inr e) = inl (below_next (λ q. (n : ℕ) × Entry x (on b q) n) k none e)
   one_more k (inl none) (inl w) = inr (record {
     p = k;
     within = omega arith;
     takes = w;
-    first = λ q lt ne v. let l : q < k = omega arith in absurd (refuses x (on b q) (none q l).0 (none q l).1 v);
+    first = below_next (Before k) k (λ q lt ne v. absurd (refuses x (on b q) (none q lt).0 (none q lt).1 v)) (λ ne v. absurd (ne refl));
   })
-  one_more k (inr f) (inr e) = inr (record {
-    p = f.p;
-    within = omega (arith, f.within);
-    takes = f.takes;
-    first = λ q lt ne v. ⊎_elim (λ (l : q < k). f.first q l ne v)
-        (λ (ge : k ≤ q). let same : q ≡ k = omega arith in absurd (refuses x (on b k) e.0 e.1 (subst (λ (i : ℕ). WouldTake x (on b i)) same v))) (cases_lt q k);
-  })
+  one_more k (inr f) (inr e) = inr (record { p = f.p; within = omega (arith, f.within); takes = f.takes; first = below_next (Before f.p) k f.first (λ ne v. absurd (refuses x (on b k) e.0 e.1 v)) })
   one_more k (inr f) (inl w) = ⊎_elim
       (λ (new-first : before (as_seen b k) (as_seen b f.p) ≡ true). inr (record {
         p = k;
         within = omega arith;
         takes = w;
-        first = λ q lt ne v. let l : q < k = omega arith in ⊎_elim
+        first = below_next (Before k) k
+            (λ q lt ne v. ⊎_elim
             (λ (same : q ≡ f.p). subst (λ (i : ℕ). before (as_seen b k) (as_seen b i) ≡ true) (sym same) new-first)
-            (λ (other : q ≡ f.p → ⊥). prefers.chains (as_seen b k) (as_seen b f.p) (as_seen b q) new-first (f.first q l other v)) (cases_eq q f.p);
+            (λ (other : q ≡ f.p → ⊥). prefers.chains (as_seen b k) (as_seen b f.p) (as_seen b q) new-first (f.first q lt other v)) (cases_eq q f.p))
+            (λ ne v. absurd (ne refl));
       }))
       (λ (old-first : before (as_seen b k) (as_seen b f.p) ≡ false). inr (record {
         p = f.p;
         within = omega (arith, f.within);
         takes = f.takes;
-        first = λ q lt ne v. ⊎_elim (λ (l : q < k). f.first q l ne v)
-            (λ (ge : k ≤ q). let same : k ≡ q = omega arith in
-            subst (λ (i : ℕ). before (as_seen b f.p) (as_seen b i) ≡ true) same
-            (prefers.one_of_two (as_seen b f.p) (as_seen b k) (λ (e : f.p ≡ k). omega (arith, f.within)) ∙ not_from_false _ old-first)) (cases_lt q k);
+        first = below_next (Before f.p) k f.first (λ ne v. prefers.one_of_two (as_seen b f.p) (as_seen b k) (λ (e : f.p ≡ k). ne (sym e)) ∙ not_from_false _ old-first);
       }))
       (cases_Bool (before (as_seen b k) (as_seen b f.p)))
 
