@@ -45,9 +45,6 @@ has_name false false true true true b₆ n h = (AlreadySeated, cc)
 has_name false false true true false true n h = (AllFull, cc)
 has_name false false true true false false n h = absurd (none-some n h)
 
-passes_parts : (b₁ b₂ b₃ b₄ b₅ b₆ : Bool) → chain b₁ b₂ b₃ b₄ b₅ b₆ ≡ None → (b₁ ≡ false) × (b₃ ≡ true) × (b₄ ≡ true)
-passes_parts b₁ b₂ b₃ b₄ b₅ b₆ h = (grind arith, grind arith, grind arith)
-
 below_next : (P : ℕ → Type 0) (k : ℕ) → ((q : ℕ) → q < k → P q) → P k → (q : ℕ) → q < suc k → P q
 below_next P k all here q lt = ⊎_elim (λ (l : q < k). all q l) (λ (ge : k ≤ q). let same : k ≡ q = omega arith in subst P same here) (cases_lt q k)
 
@@ -252,9 +249,7 @@ module _ (meaning : Meaning) (laws : JudgeLaws meaning) (before : Relation) (pre
     served = ⊎_elim away taken (choose meaning laws before prefers b held x own (length b) (omega arith))
 
   late : earlier b x (length sheet) ≡ None → Answered
-  late h =
-      let p = passes_parts (ltb (length sheet) (length b)) (eqb x.number 0) (period_allowed x) (work_allowed x) (seated x.number b) (all_full b) h in
-      served h (and_from (period_allowed x) (work_allowed x) p.1 p.2) (ltb-false (length sheet) (length b) p.0)
+  late h = served h (grind arith) (grind arith)
 
   any_answer : Answered
   any_answer = ⊎_elim (λ (s : (n : ℕ) × (earlier b x (length sheet) ≡ Some n)). early s.0 s.1) late (some_or_none (earlier b x (length sheet)))
