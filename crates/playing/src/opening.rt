@@ -8,7 +8,7 @@ use judges::Points;
 use lines::write_line;
 use preferences::Policy;
 use rack::Rack;
-use rackfile::{Record, read_file};
+use rackfile::{RackFile, Record, read_file};
 use std::alloc::Global;
 
 /// A rack with the points judge and the file's policy, and the records that are to be played on it.
@@ -22,12 +22,13 @@ pub struct Play<'a> {
 pub fn begin<'a>(alloc: Global, input: &'a [u8]) -> Result<Play<'a>, Stop>
     ensures { Begins input.now result }
 {
-    let file = read_file(alloc, input)?;
-    match Rack::make(usize::from(file.processors), Points, file.policy) {
-        Ok(rack) => Ok(Play {
-            rack,
-            records: file.records,
-        }),
+    let RackFile {
+        policy,
+        processors,
+        records,
+    } = read_file(alloc, input)?;
+    match Rack::make(usize::from(processors), Points, policy) {
+        Ok(rack) => Ok(Play { rack, records }),
         Err(blank) => {
             let refusal = blank.refusal().into();
             Err(PlayerFault::from(RefusedRecord { index: 0, refusal }).into())
