@@ -1,6 +1,6 @@
 -- Of two tasks one stands above the other; and a newcomer in its place keeps the order of priority.
-use Rattle.std.proofs.Common.{◌≡◌, true, false, ◌&&◌, List, [], ◌∷◌, refl, arith}
-use Rattle.std.proofs.lemmas.Bool.{cond_both, and_from, and_parts, le-leb, leb-false}
+use Rattle.std.proofs.Common.{◌≡◌, true, false, List, [], ◌∷◌, refl, arith}
+use Rattle.std.proofs.lemmas.Bool.{and_from, le-leb, leb-false}
 use Rattle.tasks.specs.declared.task.Task.{Task}
 use Rattle.tasks.specs.Priority.{stands_above, by_priority, joined}
 
@@ -9,14 +9,8 @@ above_or y x e = le-leb x.period.0 y.period.0 (omega (arith, leb-false y.period.
 
 pub joined_behind : (x y : Task) (ys : List Task) → by_priority (y ∷ ys) ≡ true → stands_above y x ≡ true → by_priority (y ∷ joined x ys) ≡ true
 joined_behind x y [] h a = and_from (stands_above y x) true a refl
-joined_behind x y (z ∷ zs) h a =
-    let p = and_parts (stands_above y z) (by_priority (z ∷ zs)) h in
-    let ih = joined_behind x z zs p.1 in
-    cond_both (stands_above z x) (z ∷ joined x zs) (x ∷ (z ∷ zs)) (λ l. by_priority (y ∷ l) ≡ true)
-    (λ e. and_from (stands_above y z) (by_priority (z ∷ joined x zs)) p.0 (ih e))
-    (λ e. and_from (stands_above y x) (stands_above x z && by_priority (z ∷ zs)) a (and_from (stands_above x z) (by_priority (z ∷ zs)) (above_or z x e) p.1))
+joined_behind x y (z ∷ zs) h a = grind (arith, joined_behind x z zs, above_or z x)
 
 pub joined_by_priority : (x : Task) (ts : List Task) → by_priority ts ≡ true → by_priority (joined x ts) ≡ true
 joined_by_priority x [] h = refl
-joined_by_priority x (y ∷ ys) h = cond_both (stands_above y x) (y ∷ joined x ys) (x ∷ (y ∷ ys)) (λ l. by_priority l ≡ true)
-    (λ e. joined_behind x y ys h e) (λ e. and_from (stands_above x y) (by_priority (y ∷ ys)) (above_or y x e) h)
+joined_by_priority x (y ∷ ys) h = grind (arith, joined_behind x y ys, above_or y x)
