@@ -2,7 +2,7 @@
 use Rattle.std.proofs.Common.{◌≡◌, ℕ, ◌+◌, ◌-◌, ◌<◌, ◌≤◌, cond, eqb, List, [], length, get_or, set, Ok, Err, Result, sym, refl, ap, ◌∙◌, subst, inl, inr, ⊎_elim, arith}
 use Rattle.std.proofs.lemmas.List.{ext_get_or, get_or-take, get_or-drop, get_or-map}
 use Rattle.std.proofs.lemmas.Option.{none-some}
-use Rattle.std.proofs.lemmas.Bool.{cases_eq, cases_lt, cases_order, both_ways, not_from_true}
+use Rattle.std.proofs.lemmas.Bool.{cases_eq, cases_lt, cases_order}
 use Rattle.tasks.specs.declared.task.Task.{Task}
 use Rattle.tasks.specs.declared.units.Ticks.{Ticks}
 use Rattle.tasks.specs.Priority.{joined}
@@ -82,13 +82,13 @@ module _ (meaning : Meaning) (x : Task) (ss : List Seat) where
 
 module _ (meaning : Meaning) (before : Relation) (laws : PreferenceLaws before) (b : Lists) (x : Task) (sheet : List ℕ) where
   same_taker : (p q : ℕ) (t u : Ticks) (s₁ s₂ : List ℕ) (b₁ b₂ : Lists) → Granted meaning before b x sheet p t s₁ b₁ → Granted meaning before b x sheet q u s₂ b₂ → p ≡ q
-  same_taker p q t u s₁ s₂ b₁ b₂ f g =
-      ⊎_elim (λ (e : p ≡ q). e)
-      (λ (ne : p ≡ q → ⊥).
+  same_taker p q t u s₁ s₂ b₁ b₂ f g = elim (cases_eq p q) [
+    | inl e ↦ e
+    | inr ne ↦
       let a = f.preferred.first q g.preferred.there (λ e. ne (sym e)) g.preferred.takes in
       let c = g.preferred.first p f.preferred.there ne f.preferred.takes in
-      absurd (both_ways (before (as_seen b p) (as_seen b q)) (laws.one_of_two (as_seen b p) (as_seen b q) ne ∙ not_from_true _ c) a))
-      (cases_eq p q)
+      absurd (grind (arith, laws.one_of_two (as_seen b p) (as_seen b q) ne))
+  ]
 
   grants_once : (p q : ℕ) (t u : Ticks) (s₁ s₂ : List ℕ) (b₁ b₂ : Lists) → p ≡ q → Granted meaning before b x sheet p t s₁ b₁ → Granted meaning before b x sheet q u s₂ b₂ → (t ≡ u) × (s₁ ≡ s₂) × (b₁ ≡ b₂)
   grants_once p q t u s₁ s₂ b₁ b₂ e f g₀ =
