@@ -1,12 +1,13 @@
 -- The word of a line, and what stands behind it.
-use Rattle.std.proofs.Common.{◌≡◌, ℕ, suc, ◌+◌, ◌<◌, true, false, eqb, ltb, List, [], ◌∷◌, ◌++◌, length, take, drop, Some, None, sym, refl, ap, ◌∙◌, inl, inr, one-add, arith}
+use Rattle.std.proofs.Common.{◌≡◌, ℕ, suc, ◌+◌, ◌<◌, false, ltb, List, [], ◌∷◌, ◌++◌, length, take, drop, None, sym, refl, ap, ◌∙◌, inl, inr, one-add, arith}
 use Rattle.std.proofs.lemmas.List.{length-append, take_at, drop_at, append_assoc}
-use Rattle.std.proofs.lemmas.Bool.{cond-true, cond-false, and_parts, eqb-true, ne_eqb, lt-ltb, le-ltb, cases_Bool}
+use Rattle.std.specs.Cmp.Lexicographic.{same_text}
+use Rattle.std.proofs.lemmas.Bool.{cond-true, cond-false, ne_eqb, lt-ltb, le-ltb, cases_Bool}
 use Rattle.script.specs.declared.words.Word.{Word}
 use Rattle.script.specs.declared.words.Word.TheVariants.{Judge, Demand, Share, Rehearse, Trace}
 use Rattle.script.specs.Fields.{Unspaced}
-use Rattle.script.specs.Names.{name_of, same}
-use Rattle.script.specs.Calls.{word_length, word_of, with_word, called}
+use Rattle.script.specs.Names.{name_of}
+use Rattle.script.specs.Calls.{word_length, names, word_of, with_word, called}
 
 past_byte : (b : ℕ) (rest : List ℕ) → (b ≡ 32 → ⊥) → word_length (b ∷ rest) ≡ 1 + word_length rest
 past_byte b rest h = rw (ne_eqb b 32 h)
@@ -36,28 +37,12 @@ called_at line w r e h =
     regroup : (l : List ℕ) → l ++ (32 ∷ r) ≡ (l ++ 32 ∷ []) ++ r
     regroup l = sym (append_assoc l (32 ∷ []) r)
 
-same_true : (xs ys : List ℕ) → same xs ys ≡ true → xs ≡ ys
-same_true [] [] h = refl
-same_true [] (y ∷ ys) h = let z : ◌≡◌ {A = ℕ} 0 1 = cc in absurd (omega arith)
-same_true (x ∷ xs) [] h = let z : ◌≡◌ {A = ℕ} 0 1 = cc in absurd (omega arith)
-same_true (x ∷ xs) (y ∷ ys) h =
-    let p = and_parts (eqb x y) (same xs ys) h in
-    ap (λ k. k ∷ xs) (eqb-true x y p.0) ∙ ap (λ l. y ∷ l) (same_true xs ys p.1)
-
--- the word that a text names
-pub word_is : (text : List ℕ) (w : Word) → text ≡ name_of w → word_of text ≡ Some w
-word_is text Judge e = ap word_of e
-word_is text Demand e = ap word_of e
-word_is text Share e = ap word_of e
-word_is text Rehearse e = ap word_of e
-word_is text Trace e = ap word_of e
-
-not_same : (text : List ℕ) (w : Word) → ((v : Word) → text ≡ name_of v → ⊥) → same text (name_of w) ≡ false
-not_same text w h = elim (cases_Bool (same text (name_of w))) [ inl e ↦ absurd (h w (same_true text (name_of w) e)) | inr e ↦ e ]
+not_named : (text : List ℕ) (w : Word) → ((v : Word) → text ≡ name_of v → ⊥) → names text w ≡ false
+not_named text w h = elim (cases_Bool (names text w)) [ inl e ↦ absurd (h w (same_text text (name_of w) (sym e))) | inr e ↦ e ]
 
 pub word_none : (text : List ℕ) → ((v : Word) → text ≡ name_of v → ⊥) → word_of text ≡ None
 word_none text h =
-    cond-false (same text (name_of Judge)) _ _ (not_same text Judge h) ∙ cond-false (same text (name_of Demand)) _ _ (not_same text Demand h) ∙ cond-false (same text (name_of Share)) _ _ (not_same text Share h) ∙ cond-false (same text (name_of Rehearse)) _ _ (not_same text Rehearse h) ∙ cond-false (same text (name_of Trace)) _ _ (not_same text Trace h)
+    cond-false (names text Judge) _ _ (not_named text Judge h) ∙ cond-false (names text Demand) _ _ (not_named text Demand h) ∙ cond-false (names text Share) _ _ (not_named text Share h) ∙ cond-false (names text Rehearse) _ _ (not_named text Rehearse h) ∙ cond-false (names text Trace) _ _ (not_named text Trace h)
 
 -- a line whose word is none is no call
 pub called_unknown : (line w r : List ℕ) → line ≡ w ++ (32 ∷ r) → Unspaced w → ((v : Word) → w ≡ name_of v → ⊥) → called line ≡ None

@@ -1,5 +1,6 @@
 -- The calls of a script, and how they stand in a line.
-use Rattle.std.specs.Prelude.{ℕ, suc, cond, not, List, [], ◌∷◌, length, take, drop, Some, None, vec_items, Option, ◌==◌, nat_lt}
+use Rattle.std.specs.Prelude.{nat_eq, Bool, if◌then◌else◌, ℕ, suc, not, List, [], ◌∷◌, length, take, drop, Some, None, vec_items, Option, ◌==◌, nat_lt}
+use Rattle.std.specs.Cmp.Lexicographic.{pointwise}
 use Rattle.std.specs.Option.{option_map}
 use Rattle.std.specs.List.{prefix_len}
 use Rattle.tasks.specs.declared.task.Task.{Task}
@@ -11,7 +12,7 @@ use Rattle.script.specs.declared.words.Word.TheVariants.{Judge, Demand, Share, R
 use Rattle.script.specs.declared.calls.Call.{Call}
 use Rattle.script.specs.declared.calls.Call.TheVariants as call
 use Rattle.script.specs.declared.calls.Rehearsal.{Rehearsal}
-use Rattle.script.specs.Names.{name_of, same}
+use Rattle.script.specs.Names.{name_of}
 use Rattle.script.specs.Fields.{numbers_of}
 use Rattle.script.specs.Pairs.{counted, counted_alone}
 
@@ -68,14 +69,18 @@ call_of word numbers = None
 abbrev pub word_length : List ℕ → ℕ
 word_length line = prefix_len (λ b. not (b == 32)) line
 
+-- the text is the name of the word
+abbrev pub names : List ℕ → Word → Bool
+names text word = pointwise nat_eq text (name_of word)
+
 -- the word of that name, or none
 abbrev pub word_of : List ℕ → Option Word
 word_of text =
-    cond (same text (name_of Judge)) (Some Judge)
-    (cond (same text (name_of Demand)) (Some Demand)
-    (cond (same text (name_of Share)) (Some Share)
-    (cond (same text (name_of Rehearse)) (Some Rehearse)
-    (cond (same text (name_of Trace)) (Some Trace) None))))
+    if names text Judge then Some Judge
+    else (if names text Demand then Some Demand
+    else (if names text Share then Some Share
+    else (if names text Rehearse then Some Rehearse
+    else (if names text Trace then Some Trace else None))))
 
 abbrev pub with_numbers : Word → Option (List ℕ) → Option Seen
 with_numbers word None = None
@@ -87,4 +92,6 @@ with_word (Some word) text = with_numbers word (numbers_of text)
 
 -- the call that a line stands for: a word, a space, and its numbers parted by single spaces
 abbrev pub called : List ℕ → Option Seen
-called line = cond (nat_lt (word_length line) (length line)) (with_word (word_of (take (word_length line) line)) (drop (suc (word_length line)) line)) None
+called line =
+    if nat_lt (word_length line) (length line) then with_word (word_of (take (word_length line) line)) (drop (suc (word_length line)) line)
+    else None

@@ -14,7 +14,7 @@ use std::str::FromStr;
 use tasks::{Task, Ticks};
 
 /// What a rehearsal is asked about: tasks in the order of priority, and releases below a horizon.
-#[derive(Drop)]
+#[derive(Debug, Drop, PartialEq, Eq)]
 pub struct Rehearsal {
     pub horizon: Ticks,
     pub tasks: Vec<Task>,
@@ -22,7 +22,7 @@ pub struct Rehearsal {
 }
 
 /// A call that a script line stands for.
-#[derive(Drop)]
+#[derive(Debug, Drop, PartialEq, Eq)]
 pub enum Call {
     /// What do both judges say of a task below others?
     Judge {

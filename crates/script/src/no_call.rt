@@ -5,7 +5,7 @@ ghost use Rattle.script.specs.declared.no_call.NoCall.TheVariants.{Memory};
 use std::alloc::AllocError;
 
 /// Why a text gave nothing.
-#[derive(Clone, Copy, PartialEq, Eq)]
+#[derive(Clone, Copy, Debug, PartialEq, Eq)]
 pub enum NoCall {
     /// What is asked for does not stand there.
     Unreadable,

@@ -1,7 +1,7 @@
 -- One turn of each loop that looks at an instant or writes its line.
 use Rattle.std.proofs.Common.{◌≡◌, ℕ, suc, ◌+◌, ◌≤◌, Bool, true, false, cond, ◌||◌, List, [], ◌∷◌, ◌++◌, length, take, replicate, Some, None, Option, sym, refl, ap, ◌∙◌, add-one, arith}
 use Rattle.std.specs.List.{position, position_from, enumerate_from}
-use Rattle.std.proofs.lemmas.List.{append_assoc, take-replicate}
+use Rattle.std.proofs.lemmas.List.{take-replicate}
 use Rattle.std.proofs.lemmas.Iterator.Adapters.{position_from-zero}
 use Rattle.std.proofs.lemmas.Bool.{leb-true}
 use Rattle.tasks.specs.declared.task.Task.{Task}
@@ -12,15 +12,18 @@ use Rattle.machine.specs.declared.state.Miss.{Miss}
 use Rattle.machine.specs.declared.state.Outcome.{Outcome}
 use Rattle.machine.specs.declared.refusal.Refusal.{Refusal}
 use Rattle.machine.specs.declared.refusal.Refusal.TheVariants.{Tasks, Horizon, Releases}
-use Rattle.machine.specs.Machine.{due, with_releases, served, outcome}
+use Rattle.machine.specs.Machine.{first_missed, due, with_releases, served, outcome}
 use Rattle.machine.specs.Traces.{states_at}
-use Rattle.machine.specs.Laws.{FirstMiss, end_of}
+use Rattle.machine.specs.declared.state.Moment.{Moment}
+use Rattle.machine.specs.declared.state.Moment.TheVariants.{Missed, Went}
+use Rattle.machine.specs.Moments.{deadlines_fit, Stepped}
+use Rattle.machine.specs.Laws.{FirstMiss, ready_at, end_of}
 use Rattle.machine.specs.Refusals.{tasks_allowed, horizon_allowed, releases_allowed, first_cause}
 use Rattle.machine.proofs.Running.{allowed_tasks}
 use Rattle.machine.proofs.Separated.{near_fits}
 use Rattle.machine.proofs.Trace.{miss_is_first, none_before, length-states}
 use Rattle.machine.specs.Events.{fresh}
-use Rattle.traces.specs.Traces.{released_below, waiting, first_waiting, line_text, lines_below, Clear}
+use Rattle.traces.specs.Traces.{released_below, waiting, first_waiting, line_text, line_at, lines_below, Clear}
 
 -- the tick goes to the first place that waits once the releases have come
 module _ (rs : List Release) (t : ℕ) where
@@ -44,29 +47,36 @@ module _ (rs : List Release) (t : ℕ) where
   pub first_to_wait : (ts : List Task) (ss : List State) → length ss ≡ length ts → position will_wait (enumerate_from 0 ss) ≡ first_waiting (with_releases rs t 0 ts ss)
   first_to_wait ts ss e = position_from-zero will_wait (enumerate_from 0 ss) ∙ waits_from 0 0 ts ss e ∙ sym (position_from-zero waiting (with_releases rs t 0 ts ss))
 
--- a text that grows by one piece: what is written and what is left still give the whole
-pub grown : (text piece more new rest tail whole : List ℕ) → new ≡ text ++ piece → piece ≡ more → more ++ rest ≡ tail → text ++ tail ≡ whole → new ++ rest ≡ whole
-grown text piece more new rest tail whole a b c d =
-    ap (λ (l : List ℕ). l ++ rest) (a ∙ ap (λ (l : List ℕ). text ++ l) b) ∙ append_assoc text more rest ∙ ap (λ (l : List ℕ). text ++ l) c ∙ d
+-- an instant that can be done, with no miss, goes by
+stepped
+    : (ts : List Task) (rs : List Release) (k : ℕ) (old new : List State) (o : Option Moment) → Stepped ts rs k old new o → length old ≡ length ts → deadlines_fit ts k ≡ true → first_missed k 0 old ≡ None
+    → new ≡ served (with_releases rs k 0 ts old)
+stepped ts rs k old new None s l f m = let n : ◌≡◌ {A = ℕ} 0 1 = grind (arith, s, l, f) in absurd (omega (arith, n))
+stepped ts rs k old new (Some (Missed place)) s l f m = let n : ◌≡◌ {A = ℕ} 0 1 = grind (arith, s, m) in absurd (omega (arith, n))
+stepped ts rs k old new (Some (Went busy)) s l f m = grind (arith, s, m)
 
 -- the states and the lines of a run, one instant on
 module _ (ts : List Task) (rs : List Release) where
   pub states_first : (n : ℕ) → n ≡ length ts → length ts ≤ 33 → take n (replicate 33 Idle) ≡ states_at ts rs 0
   states_first n e l = ap (λ k. take k (replicate 33 Idle)) e ∙ take-replicate (length ts) 33 Idle l
 
-  module _ (k : ℕ) (old : List State) (is : old ≡ states_at ts rs k) where
-    pub sized : length old ≡ length ts
+  module _ (k : ℕ) (old new : List State) (is : old ≡ states_at ts rs k) where
+    sized : length old ≡ length ts
     sized = ap length is ∙ length-states ts rs k
 
-    pub states_next : (new : List State) → new ≡ served (with_releases rs k 0 ts old) → new ≡ states_at ts rs (k + 1)
-    states_next new e = e ∙ ap (λ ss. served (with_releases rs k 0 ts ss)) is ∙ sym (ap (states_at ts rs) (add-one k))
+    pub states_next : (o : Option Moment) → Stepped ts rs k old new o → deadlines_fit ts k ≡ true → first_missed k 0 (states_at ts rs k) ≡ None → new ≡ states_at ts rs (k + 1)
+    states_next o s f m =
+        stepped ts rs k old new o s sized f (ap (first_missed k 0) is ∙ m) ∙ ap (λ ss. served (with_releases rs k 0 ts ss)) is ∙ sym (ap (states_at ts rs) (add-one k))
 
-    abbrev line_from : List State → List ℕ
-    line_from ss = line_text k (released_below rs k (length ts)) (first_waiting (with_releases rs k 0 ts ss)) (served (with_releases rs k 0 ts ss))
-
-    pub lines_next : (text piece new : List ℕ) → text ≡ lines_below ts rs k → new ≡ text ++ piece → piece ≡ line_from old → new ≡ lines_below ts rs (k + 1)
-    lines_next text piece new a b e =
-        b ∙ ap (λ (l : List ℕ). l ++ piece) a ∙ ap (λ (l : List ℕ). lines_below ts rs k ++ l) (e ∙ ap line_from is) ∙ sym (ap (lines_below ts rs) (add-one k))
+    pub lines_next
+        : (text all released : List ℕ) (at : Option ℕ) → text ≡ lines_below ts rs k → all ≡ text ++ line_text k released at new
+        → released ≡ released_below rs k (length ts) → at ≡ position (will_wait rs k) (enumerate_from 0 old) → new ≡ states_at ts rs (k + 1) → all ≡ lines_below ts rs (k + 1)
+    lines_next text all released at a b c d e =
+        let here = d ∙ first_to_wait rs k ts old sized ∙ ap (λ ss. first_waiting (with_releases rs k 0 ts ss)) is in
+        let line : line_text k released at new ≡ line_at ts rs k =
+        ap (λ (r : List ℕ). line_text k r at new) c ∙ ap (λ o. line_text k (released_below rs k (length ts)) o new) here
+        ∙ ap (line_text k (released_below rs k (length ts)) (first_waiting (ready_at ts rs k))) (e ∙ ap (states_at ts rs) (add-one k)) in
+        b ∙ ap (λ (l : List ℕ). l ++ line_text k released at new) a ∙ ap (λ (l : List ℕ). lines_below ts rs k ++ l) line ∙ sym (ap (lines_below ts rs) (add-one k))
 
 -- a run that is not refused goes through the instants before its end
 module _ (ts : List Task) (h : ℕ) (rs : List Release) where

@@ -10,43 +10,6 @@ use machine::{Release, State, rehearse, step};
 use std::alloc::{AllocError, Global};
 use tasks::{Task, Ticks};
 
-// Goes through one instant, which has no miss.
-fn go_on(tasks: &[Task], releases: &[Release], instant: Ticks, states: &mut [State])
-    requires sizes { length states.old ≡ length tasks.now }
-    requires fits { deadlines_fit tasks.now instant.0 ≡ true }
-    requires misses { first_missed instant.0 0 states.old ≡ None }
-    ensures { states.new ≡ served (with_releases releases.now instant.0 0 tasks.now states.old) }
-{
-    let _ = step(tasks, releases, instant, states);
-}
-
-// Goes through one instant, which has no miss, and writes its line.
-#[tactic(auto, using(crate::proofs::Instants::first_to_wait))]
-fn next_line(
-    alloc: Global,
-    tasks: &[Task],
-    releases: &[Release],
-    instant: Ticks,
-    states: &mut [State],
-) -> Result<String, AllocError>
-    requires sizes { length states.old ≡ length tasks.now }
-    requires fits { deadlines_fit tasks.now instant.0 ≡ true }
-    requires misses { first_missed instant.0 0 states.old ≡ None }
-    ensures states { OnOk result (states.new ≡ served (with_releases releases.now instant.0 0 tasks.now states.old)) }
-    ensures text { IfOk result (λ s. string_bytes s ≡ line_text instant.0 (released_below releases.now instant.0 (length tasks.now)) (first_waiting (with_releases releases.now instant.0 0 tasks.now states.old)) (served (with_releases releases.now instant.0 0 tasks.now states.old))) }
-{
-    let released = released_places(alloc, releases, tasks.len(), instant)?;
-    let served = served_place(releases, instant, states);
-    go_on(tasks, releases, instant, states);
-    let line = Line {
-        instant,
-        released: released.as_slice(),
-        served,
-        states,
-    };
-    line.to_string(alloc)
-}
-
 // The lines of the instants before the end of a run.
 fn lines_to(
     alloc: Global,
@@ -61,13 +24,23 @@ fn lines_to(
     let states = &mut all[0..tasks.len()];
     let mut text = String::new(alloc);
     for at in 0..end.0 {
-        let line = next_line(alloc, tasks, releases, Ticks(at), states)?;
-        text.push_str(line.as_str())?;
+        let instant = Ticks(at);
+        let released = released_places(alloc, releases, tasks.len(), instant)?;
+        let served = served_place(releases, instant, states);
+        let _ = step(tasks, releases, instant, states);
+        let line = Line {
+            instant,
+            released: released.as_slice(),
+            served,
+            states,
+        };
+        write!(text, "{line}")?;
     }
     Ok(text)
 }
 
 /// What stands before the answer to a trace: nothing where the run is refused, else a line for each instant before its end, all behind the end of a line.
+#[tactic(auto, using(crate::proofs::Instants::clear_to_end))]
 pub fn trace_text(
     alloc: Global,
     tasks: &[Task],
