@@ -1,8 +1,6 @@
 // The lines of a trace.
-ghost use Rattle.std.specs.Prelude.{◌≡◌, ◌≤◌, true, ◌++◌, length, IfOk, None, string_bytes, OnOk};
-ghost use Rattle.machine.specs.Machine.{first_missed, with_releases, served};
-ghost use Rattle.machine.specs.Moments.{deadlines_fit};
-ghost use Rattle.traces.specs.Traces.{released_below, first_waiting, line_text, lines_below, trace_text, Clear};
+ghost use Rattle.std.specs.Prelude.{◌≡◌, IfOk, string_bytes};
+ghost use Rattle.traces.specs.Traces.{lines_below, trace_text, Clear};
 
 use crate::line::Line;
 use crate::views::{end_of, released_places, served_place};
@@ -27,6 +25,7 @@ fn lines_to(
         let instant = Ticks(at);
         let released = released_places(alloc, releases, tasks.len(), instant)?;
         let served = served_place(releases, instant, states);
+        // The instant goes by, since none before the end has a miss.
         let _ = step(tasks, releases, instant, states);
         let line = Line {
             instant,
