@@ -16,13 +16,21 @@ moment b sound = at_moment b sound.kept_well sound.differ (λ x entries h. (pass
 
 module _ {J P : Type 0} (mean : J → Meaning) (bef : P → Relation) where
   -- a step of the rack follows the rules on its lists, keeps the meanings, and leaves a sound rack
-  pub record Follows (r s : Table J P) (e : Event) : Type 0 where
+  record Follows (r s : Table J P) (e : Event) : Type 0 where
     pub rules : Rules (mean r.judge) (bef r.preference) r.lists e s.lists
     pub judge : mean s.judge ≡ mean r.judge
     pub preference : bef s.preference ≡ bef r.preference
     pub sound : Sound s.lists
 
-  pub follows : ((j : J) → JudgeLaws (mean j)) → (r s : Table J P) (e : Event) → Sound r.lists → Step mean bef r e s → Follows r s e
+  asked : (r s : Table J P) (e : Event) → Sound r.lists → s ≡ r → (s.lists ≡ r.lists → Rules (mean r.judge) (bef r.preference) r.lists e s.lists) → Follows r s e
+  asked r s e sound is rules = record {
+    rules = rules (ap (λ (u : Table J P). u.lists) is);
+    judge = ap (λ (u : Table J P). mean u.judge) is;
+    preference = ap (λ (u : Table J P). bef u.preference) is;
+    sound = subst (λ (u : Table J P). Sound u.lists) (sym is) sound;
+  }
+
+  follows : ((j : J) → JudgeLaws (mean j)) → (r s : Table J P) (e : Event) → Sound r.lists → Step mean bef r e s → Follows r s e
   follows laws r s (admits x sheet a sheet') sound t = record {
     rules = t.admits;
     judge = t.judge;
@@ -35,9 +43,9 @@ module _ {J P : Type 0} (mean : J → Meaning) (bef : P → Relation) where
     preference = ap bef t.preference;
     sound = withdrawn_sound r.lists sound n a s.lists t.withdraws;
   }
-  follows laws r s (finds n a) sound t = record { rules = (t.0, ap (λ (u : Table J P). u.lists) t.1); judge = ap (λ (u : Table J P). mean u.judge) t.1; preference = ap (λ (u : Table J P). bef u.preference) t.1; sound = subst (λ (u : Table J P). Sound u.lists) (sym t.1) sound }
-  follows laws r s (loads p a) sound t = record { rules = (t.0, ap (λ (u : Table J P). u.lists) t.1); judge = ap (λ (u : Table J P). mean u.judge) t.1; preference = ap (λ (u : Table J P). bef u.preference) t.1; sound = subst (λ (u : Table J P). Sound u.lists) (sym t.1) sound }
-  follows laws r s (lists p a) sound t = record { rules = (t.0, ap (λ (u : Table J P). u.lists) t.1); judge = ap (λ (u : Table J P). mean u.judge) t.1; preference = ap (λ (u : Table J P). bef u.preference) t.1; sound = subst (λ (u : Table J P). Sound u.lists) (sym t.1) sound }
+  follows laws r s (finds n a) sound t = asked r s (finds n a) sound t.1 (λ e. (t.0, e))
+  follows laws r s (loads p a) sound t = asked r s (loads p a) sound t.1 (λ e. (t.0, e))
+  follows laws r s (lists p a) sound t = asked r s (lists p a) sound t.1 (λ e. (t.0, e))
 
   carried : (m₁ m₂ : Meaning) (f₁ f₂ : Relation) (b₁ b₂ : Book) (es : List Event) → m₁ ≡ m₂ → f₁ ≡ f₂ → b₁ ≡ b₂ → ClaimFrom m₁ f₁ b₁ es → ClaimFrom m₂ f₂ b₂ es
   carried m₁ m₂ f₁ f₂ b₁ b₂ es p q e h =

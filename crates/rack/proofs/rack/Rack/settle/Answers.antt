@@ -46,6 +46,5 @@ returns g c =
           c.self.inside.processors.items c.deref_mut.result.now is c.deref_mut.ensures.value c.index-deref_mut-p.result c.join.new.self c.join.ensures c.deref-2.result.now c.deref-2.ensures.0;
       judge = ap (λ (t : Table g.row.J.Denot g.row.P.Denot). t.judge) c.self.view_is;
       preference = ap (λ (t : Table g.row.J.Denot g.row.P.Denot). t.preference) c.self.view_is;
-      sound = still_sound mean (g.met.J.Judge.lawful r.judge) bef r.lists (subst Sound is c.self.invariant) c.args.newcomer c.args.sheet.now c.requires.passes es c.in-Some.taker best
-          c.self.inside.processors.items c.deref_mut.result.now is c.deref_mut.ensures.value c.index-deref_mut-p.result c.join.new.self c.join.ensures;
+      sound = invariant_of-self g c;
     }
