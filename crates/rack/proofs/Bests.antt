@@ -21,7 +21,7 @@ use Rattle.rack.specs.Choices.{better_of, Willing, Rejects, Best, Chosen}
 
 module _ (mean : Meaning) (x : Task) (ss : List Seat) where
   pub willing : (t : Trial) → Took mean x ss t → Willing mean x ss
-  willing t k = (k.room, λ i lo hi. (_, k.each i (omega (arith, k.place)) hi))
+  willing t k = (k.trial.room, λ i lo hi. (_, k.each i (omega (arith, k.trial.place)) hi))
 
   pub rejects : (n : ℕ) → Rejects mean x ss n → Willing mean x ss → ⊥
   rejects n (Full, full, is) w = omega (arith, full, w.0)
@@ -79,8 +79,8 @@ module _ (mean : Meaning) (bef : Relation) (laws : PreferenceLaws bef) (b : List
       → e ≡ record { best = Some (better_of f c.best k); entries = c.entries } → Took said x ss t → Chosen mean bef b x (p + 1) e
   offered f t k e fs ks es took =
       let now : Took mean x (on b p) t = subst (λ (l : List Seat). Took mean x l t) (sym here) (subst (λ (m : Meaning). Took m x ss t) same took) in
-      let seen = ap (λ (l : List Seat). record { contender = seen_with l p; trial = t }) (sym here) in
-      let is = es ∙ ap (λ (g : Relation). record { best = Some (better_of g c.best k); entries = c.entries }) fs
+      let seen : ◌≡◌ {A = Taker} (record { contender = seen_with ss p; trial = t }) (record { contender = seen_with (on b p) p; trial = t }) = ap (λ (l : List Seat). record { contender = seen_with l p; trial = t }) (sym here) in
+      let is : e ≡ record { best = Some (better_of bef c.best (record { contender = seen_with (on b p) p; trial = t })); entries = c.entries } = es ∙ ap (λ (g : Relation). record { best = Some (better_of g c.best k); entries = c.entries }) fs
       ∙ ap (λ (y : Taker). record { best = Some (better_of bef c.best y); entries = c.entries }) (ks ∙ seen) in
       subst (λ (v : Choice). Chosen mean bef b x (p + 1) v) (sym is) (record { few = omega (arith, old.few); best = taker_more mean bef laws b x p c.entries.items t c.best now old.best })
 

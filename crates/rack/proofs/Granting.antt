@@ -36,16 +36,16 @@ module _ (mean : Meaning) (x : Task) (ss : List Seat) (t : Trial) (k : Took mean
       let p = place_of x ts in
       let le = place_le x ts in
       let n = length-tasks ss in
-      let z : p - t.place ≡ 0 = omega (arith, k.place) in
+      let z : p - t.place ≡ 0 = omega (arith, k.trial.place) in
       ap (λ (y : Task). mean y (take p ts)) (sym (joined_here x ts)) ∙ ap (λ (l : List Task). mean (get_or (joined x ts) p no_task) l) (sym (take-joined x ts p (omega arith)))
-      ∙ k.each p (omega (arith, k.place)) (omega arith)
+      ∙ k.each p (omega (arith, k.trial.place)) (omega arith)
       ∙ ap (λ (i : ℕ). Some (get_or t.instants.items i no_ticks)) z
 
   joins_so : (new : List Seat) → SeatedWith x t.instants.items ss new → Joins mean x ss new
   joins_so new w = record {
     tasks = w.tasks;
     above = w.above;
-    judged = λ i lo hi. subst (λ (p : ℕ). p ≤ i → mean (get_or (joined x (tasks_of ss)) i no_task) (take i (joined x (tasks_of ss))) ≡ Some (get_or t.instants.items (i - p) no_ticks)) k.place (λ l. k.each i l hi) lo
+    judged = λ i lo hi. subst (λ (p : ℕ). p ≤ i → mean (get_or (joined x (tasks_of ss)) i no_task) (take i (joined x (tasks_of ss))) ≡ Some (get_or t.instants.items (i - p) no_ticks)) k.trial.place (λ l. k.each i l hi) lo
         ∙ ap (λ (u : Ticks). Some u) (sym (w.instants i lo hi));
   }
 

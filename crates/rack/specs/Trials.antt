@@ -19,6 +19,12 @@ abbrev pub entry_of : Declined → ℕ
 entry_of Full = 0
 entry_of (Unfit n) = n
 
+-- a trial is one of x on the seats ss: its place there, and as many instants as x and the tasks below it want
+pub record IsTrialOf (x : Task) (ss : List Seat) (t : Trial) : Type 0 where
+  pub room : length ss < 32
+  pub place : t.place ≡ place_of x (tasks_of ss)
+  pub count : t.place + length t.instants.items ≡ length ss + 1
+
 module _ (meaning : Meaning) where
   -- each task from `from` on has the instant that the judge says
   pub record AllSaid (ts : List Task) (from : ℕ) (instants : List Ticks) : Type 0 where
@@ -40,9 +46,7 @@ module _ (meaning : Meaning) where
 
   -- the judge gives x a place among the seats ss, with the instants of the trial
   pub record Took (x : Task) (ss : List Seat) (t : Trial) : Type 0 where
-    pub room : length ss < 32
-    pub place : t.place ≡ place_of x (tasks_of ss)
-    pub count : t.place + length t.instants.items ≡ length ss + 1
+    pub trial : IsTrialOf x ss t
     pub each : (k : ℕ) → t.place ≤ k → k < length ss + 1 → said meaning (joined x (tasks_of ss)) k ≡ Some (slice_index_or t.instants.items (k - t.place) no_ticks)
 
   -- it does not, and that is why

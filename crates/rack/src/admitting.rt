@@ -24,6 +24,8 @@ fn fill(sheet: &mut [u32], entries: &[u32])
 
 impl<J: Judge, P: Preference> Rack<J, P> {
     /// Admits a task: of the processors that would take it the preferred one does, and its number and the task's instant are the answer.
+    /// Where none would take it, the sheet gets an entry for each processor: 0 where it is full, or else the number of the first task that would not fit.
+    /// At any other refusal nothing changes, neither the rack nor the sheet.
     pub fn admit(&mut self, task: Task, sheet: &mut [u32]) -> Result<(usize, Ticks), AdmitRefusal>
         ensures step { Step J.meaning P.before self.old (admits task sheet.old result sheet.new) self.new }
         ensures sound { Sound self.new.lists }
@@ -74,6 +76,7 @@ impl<J: Judge, P: Preference> Rack<J, P> {
         ensures preference { self.new.preference ≡ self.old.preference }
         ensures sound { Sound self.new.lists }
     {
+        // With a field in use the rack's invariant is known, in both cases.
         let _ = &self.processors;
         let Some(taker) = &choice.best else {
             fill(sheet, &choice.entries);

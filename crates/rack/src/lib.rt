@@ -12,5 +12,4 @@ mod trial;
 mod withdrawing;
 
 pub use blank::Blank;
-pub use questions::every_rack;
-pub use rack::Rack;
+pub use rack::{Rack, every_rack};

@@ -3,7 +3,7 @@ ghost use Rattle.std.specs.Prelude.{◌≡◌, ◌+◌, ◌-◌, ◌<◌, ◌≤
 ghost use Rattle.std.specs.List.{remove};
 ghost use Rattle.tasks.specs.Limits.{within_limits};
 ghost use Rattle.tasks.specs.Share.{share_of};
-ghost use Rattle.seating.specs.Seats.{tasks_of, load_of, place_of, no_seat};
+ghost use Rattle.seating.specs.Seats.{tasks_of, load_of, no_seat};
 
 use super::seat_table::SeatTable;
 use super::trial::Trial;
@@ -59,7 +59,7 @@ fn less(load: u64, task: Task) -> u64
 }
 
 impl Processor {
-    ghost use Rattle.rack.specs.Trials.{SeatedWith};
+    ghost use Rattle.rack.specs.Trials.{IsTrialOf, SeatedWith};
 
     /// The taken seats, lent.
     pub(crate) fn seats(&self) -> &[Seat]
@@ -85,9 +85,7 @@ impl Processor {
 
     /// The newcomer of a trial takes its seat, and each seat below it keeps the instant of the trial.
     pub(crate) fn join(&mut self, newcomer: Task, trial: &Trial)
-        requires room { length self.old < 32 }
-        requires place { trial.now.place ≡ place_of newcomer (tasks_of self.old) }
-        requires instants { trial.now.place + length trial.now.instants.items ≡ length self.old + 1 }
+        requires trial { IsTrialOf newcomer self.old trial.now }
         requires limits { within_limits newcomer ≡ true }
         ensures { SeatedWith newcomer trial.now.instants.items self.old self.new }
     {

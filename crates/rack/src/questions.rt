@@ -1,7 +1,6 @@
 // The questions about a rack. They change nothing.
 ghost use Rattle.std.specs.Prelude.{◌≡◌};
 ghost use Rattle.book.specs.Book.{finds, loads, lists};
-ghost use Rattle.rack.specs.Always.{Always};
 ghost use Rattle.rack.specs.Spots.{SpotOn};
 ghost use Rattle.rack.specs.Table.{Sound};
 ghost use Rattle.rack.specs.Steps.{Step, shown};
@@ -51,11 +50,4 @@ impl<J: Judge, P: Preference> Rack<J, P> {
         }
         None
     }
-}
-
-/// What holds of every rack at every moment, and that each call has exactly one answer.
-pub fn every_rack<J: Judge, P: Preference>(rack: &Rack<J, P>)
-    ensures { Always J.meaning P.before rack.now }
-{
-    let _ = &rack.processors;
 }

@@ -1,5 +1,6 @@
 // A rack, and how it is made.
 ghost use Rattle.std.specs.Prelude.{◌≡◌, ◌&&◌, nat_le, ◌≤◌, [], replicate};
+ghost use Rattle.rack.specs.Always.{Always};
 
 use super::blank::Blank;
 use super::processor::Processor;
@@ -66,4 +67,12 @@ impl<J: Judge, P: Preference> Rack<J, P> {
             preference,
         })
     }
+}
+
+/// What holds of every rack at every moment, and that each call has exactly one answer.
+pub fn every_rack<J: Judge, P: Preference>(rack: &Rack<J, P>)
+    ensures { Always J.meaning P.before rack.now }
+{
+    // With a field in use the rack's invariant is known.
+    let _ = &rack.processors;
 }

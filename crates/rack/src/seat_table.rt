@@ -1,12 +1,12 @@
 // The seats of one processor.
-ghost use Rattle.std.specs.Prelude.{◌≡◌, ◌+◌, ◌<◌, ◌≤◌, [], length, slice_index_or};
+ghost use Rattle.std.specs.Prelude.{◌≡◌, ◌<◌, ◌≤◌, [], length, slice_index_or};
 ghost use Rattle.std.specs.List.{insert, remove};
-ghost use Rattle.seating.specs.Seats.{tasks_of, place_of, no_seat};
+ghost use Rattle.seating.specs.Seats.{no_seat};
 
 use super::trial::Trial;
 use seating::Seat;
 use std::marker::Model;
-use tasks::{Task, Ticks, Units};
+use tasks::{Task, Ticks};
 
 /// At most 32 seats: the first `taken` of a fixed array hold tasks.
 #[derive(Drop)]
@@ -28,7 +28,7 @@ impl Model for SeatTable {
 
 impl SeatTable {
     ghost use Rattle.rack.specs.Renewed.{renewed};
-    ghost use Rattle.rack.specs.Trials.{SeatedWith};
+    ghost use Rattle.rack.specs.Trials.{IsTrialOf, SeatedWith};
 
     /// The taken seats, lent.
     pub(crate) fn as_slice(&self) -> &[Seat]
@@ -61,9 +61,7 @@ impl SeatTable {
 
     /// The newcomer of a trial takes its seat, and each seat below it keeps the instant of the trial.
     pub(crate) fn seat(&mut self, newcomer: Task, trial: &Trial)
-        requires room { length self.old < 32 }
-        requires place { trial.now.place ≡ place_of newcomer (tasks_of self.old) }
-        requires instants { trial.now.place + length trial.now.instants.items ≡ length self.old + 1 }
+        requires { IsTrialOf newcomer self.old trial.now }
         ensures { SeatedWith newcomer trial.now.instants.items self.old self.new }
     {
         self.insert(
@@ -73,9 +71,8 @@ impl SeatTable {
                 instant: trial.instants[0],
             },
         );
-        // An index loop: a place in the table and one in the trial, in step.
-        for i in trial.place + 1..trial.place + trial.instants.len() {
-            self.renew(i, trial.instants[i - trial.place]);
+        for (below, instant) in trial.instants[1..].iter().enumerate() {
+            self.renew(trial.place + 1 + below, *instant);
         }
     }
 
@@ -97,12 +94,8 @@ impl Default for SeatTable {
 
     fn default() -> SeatTable {
         let free = Seat {
-            task: Task {
-                number: 0,
-                work: Units(0),
-                period: Ticks(0),
-            },
-            instant: Ticks(0),
+            task: Task::default(),
+            instant: Ticks::default(),
         };
         SeatTable {
             seats: [free; 32],

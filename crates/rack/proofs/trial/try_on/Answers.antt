@@ -26,4 +26,4 @@ pub returns-clause-tried : goal.returns-clause-tried
 returns-clause-tried g c =
     let room = ltb-true (length c.args.seats.now) 32 (sym c.if-not-has_room.ensures) in
     took (g.J.Judge.meaning c.args.judge.now) c.args.newcomer c.args.seats.now c.place-place.result c.place-place.ensures.place room c.deref.result.now
-        (c.deref.ensures.0 ∙ c.with_newcomer-tasks.ensures) c.judge_from.result c.judge_from.ensures.judged c.in_ok-instants.instants c.in_ok-instants.was
+    (c.deref.ensures.0 ∙ c.with_newcomer-tasks.ensures) c.judge_from.result c.judge_from.ensures.judged c.in_ok-instants.instants c.in_ok-instants.was

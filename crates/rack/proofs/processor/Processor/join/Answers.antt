@@ -11,7 +11,7 @@ more-self-inside-requires c =
     let ss = c.self.inside.table in
     record {
       limits = c.requires.limits;
-      small = omega (arith, load_bound (tasks_of ss) c.self.invariant.1, length-tasks ss, ap (length {A = Seat}) c.self.view_is, c.self.invariant.0, c.requires.room);
+      small = omega (arith, load_bound (tasks_of ss) c.self.invariant.1, length-tasks ss, ap (length {A = Seat}) c.self.view_is, c.self.invariant.0, c.requires.trial.room);
     }
 
 pub invariant_of-self : goal.invariant_of-self

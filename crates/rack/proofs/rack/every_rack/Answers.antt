@@ -3,7 +3,7 @@ use Rattle.seating.proofs.Answering.{admits_some, withdraws_some}
 use Rattle.seating.proofs.Once.{admits_once}
 use Rattle.seating.proofs.WithdrawOnce.{withdraws_once}
 use Rattle.rack.specs.Table.{Table, Sound}
-use Rattle.rack.proofs.questions.every_rack.Goals as goal
+use Rattle.rack.proofs.rack.every_rack.Goals as goal
 
 pub returns : goal.returns
 returns g c =
