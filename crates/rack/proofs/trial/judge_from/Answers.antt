@@ -12,9 +12,3 @@ returns-in_err-instant g c =
           c.loop-i.auto.i c.loop-i-test.true c.ask.ensures.answer c.ok_or.ensures.value c.in_err-instant.was (λ k lo hi. (_, inv.each k lo hi));
       same = c.ask.ensures.same ∙ inv.same;
     })
-
-pub returns-clause-judged : goal.returns-clause-judged
-returns-clause-judged g c = record {
-  count = omega (arith, c.loop-i.invariant.count, c.loop-i.auto.i-end c.requires.within);
-  each = λ k lo hi. c.loop-i.invariant.each k lo (omega arith);
-}

@@ -23,12 +23,3 @@ loop-p-preserved g c =
     let p = c.loop-p.p in
     let here : get_or b p [] ≡ c.seats.result.now = get_or_default b p [] c.processor-item.result c.loop-p-test.true ∙ sym c.processor-item.is ∙ sym c.seats.ensures.list in
     not_here c.args.number b p c.seats.result.now c.loop-p-test.true here (first_spot c.args.number c.seats.result.now None c.in_default.ensures) c.loop-p.invariant
-
-pub returns : goal.returns
-returns g c =
-    let is = ap (λ (t : Table g.row.J.Denot g.row.P.Denot). t.lists) c.self.view_is in
-    let b = c.deref-processor-items.result.now in
-    record {
-      spot = ap (seated c.args.number) (sym (c.deref-processor-items.ensures.0 ∙ is)) ∙ sym c.loop-p.invariant ∙ sym (sym (at_drop_all (seated c.args.number) b c.loop-p.p c.loop-p-test.false));
-      sound = subst Sound is c.self.invariant;
-    }

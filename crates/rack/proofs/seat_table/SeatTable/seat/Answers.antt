@@ -7,13 +7,6 @@ use Rattle.seating.proofs.Placing.{place_le, length-tasks}
 use Rattle.rack.proofs.Renewings.{Renewing, renewing_more, length-seated, seated_with}
 use Rattle.rack.proofs.seat_table.SeatTable.seat.Goals as goal
 
-pub renew-requires : goal.renew-requires
-renew-requires c =
-    let ss = c.args.self.now in
-    let lent = c.deref-2.result.now in
-    let le : c.args.trial.now.place ≤ length ss = omega (arith, place_le c.args.newcomer (tasks_of ss), length-tasks ss) in
-    omega (arith, length-seated ss c.insert.new.self c.loop-below.self _ _ _ _ le c.insert.ensures c.loop-below.invariant, length-between lent 1 (length lent) (omega arith), ap (length {A = Ticks}) c.deref-2.ensures.0)
-
 pub loop-below-preserved : goal.loop-below-preserved
 loop-below-preserved c =
     let ss = c.args.self.now in
