@@ -1,3 +1,7 @@
+pub mod Stub
+pub mod Kinds
+pub mod Desk
+pub mod Unanswered
 pub mod Hex
 pub mod Names
 pub mod Files

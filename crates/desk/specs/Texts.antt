@@ -1,5 +1,6 @@
 -- The rack's answers in words.
-use Rattle.std.specs.Prelude.{ℕ, List, [], ◌∷◌, ◌++◌, Ok, Err, codes, decimal, Result}
+use Rattle.std.specs.Prelude.{ℕ, List, [], ◌++◌, Ok, Err, codes, decimal, Result}
+use Rattle.std.specs.List.{flat_map}
 use Rattle.tasks.specs.declared.units.Ticks.{Ticks}
 use Rattle.tasks.specs.declared.units.Units.{Units}
 use Rattle.seating.specs.declared.refusal.AdmitRefusal.{AdmitRefusal}
@@ -9,8 +10,7 @@ use Rattle.seating.specs.Refusals.{admitting, withdrawing, number_of}
 
 -- each entry behind a space
 abbrev pub entries_text : List ℕ → List ℕ
-entries_text [] = []
-entries_text (n ∷ ns) = codes " " ++ (decimal n ++ entries_text ns)
+entries_text entries = flat_map (λ n. codes " " ++ decimal n) entries
 
 -- the whole sheet where no processor would take the task, else nothing of it
 abbrev pub sheet_text : AdmitRefusal → List ℕ → List ℕ

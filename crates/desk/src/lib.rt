@@ -1,6 +1,7 @@
 // The desk: the test program's calls on a rack and on files.
 #![tactic(auto)]
 
+mod any;
 mod asking;
 mod desk;
 mod files;
@@ -9,14 +10,18 @@ mod making;
 mod plays;
 mod questions;
 mod replies;
+mod seats;
+mod sheets;
+mod stub;
 mod texts;
+mod unanswered;
 mod words;
 
 pub use asking::Admission;
 pub use desk::Desk;
 pub use files::read_answer;
 pub use hex::bytes_from;
-pub use making::{JudgeName, Setup};
+pub use making::Setup;
 pub use plays::play_told;
 pub use replies::reply;
 pub use words::{Word, asked};
