@@ -1,6 +1,5 @@
 -- One record more.
 use Rattle.std.proofs.Common.{◌≡◌, ℕ, ◌+◌, ◌-◌, List, ◌++◌, map, get_or, take, IfOk, Ok, Err, vec_items, Result, Vec, sym, ap, ◌∙◌, subst, add-one}
-use native.Mathlib.Nat.{sub-zero}
 use Rattle.std.specs.declared.alloc.Global.{Global}
 use Rattle.judges.specs.declared.points.Points.{Points}
 use Rattle.preferences.specs.declared.policy.Policy.{Policy}
@@ -16,7 +15,7 @@ use Rattle.desk.specs.Plays.{PlayedTo, AllPlayed, PlayedAs}
 
 pub one_more
     : (start : Rack Points Policy) (records : List Seen) (n : ℕ) (q : Rack Points Policy) (sheet₀ out₀ lines₀ : List ℕ) (long : ℕ) (one : Seen) (r : Rack Points Policy) (sheet out lines : List ℕ)
-    → PlayedTo start records n q sheet₀ out₀ lines₀ → Plays (λ _. least_good_point) policy_before q one n sheet₀ out₀ long r sheet out → get_or records n (withdraws 0) ≡ one → lines ≡ lines₀ ++ take (long - 0) out
+    → PlayedTo start records n q sheet₀ out₀ lines₀ → Plays (λ _. least_good_point) policy_before q one n sheet₀ out₀ long r sheet out → get_or records n (withdraws 0) ≡ one → lines ≡ lines₀ ++ take long out
     → PlayedTo start records (n + 1) r sheet out lines
 one_more start records n q sheet₀ out₀ lines₀ long one r sheet out lines before plays e is =
     subst (λ k. PlayedTo start records k r sheet out lines) (sym (add-one n)) (
@@ -27,5 +26,12 @@ one_more start records n q sheet₀ out₀ lines₀ long one r sheet out lines b
       long,
       before,
       subst (λ x. Plays (λ _. least_good_point) policy_before q x n sheet₀ out₀ long r sheet out) (sym e) plays,
-      is ∙ ap (λ k. lines₀ ++ take k out) (sub-zero long),
+      is,
     )
+
+-- the lines of a file that was begun
+pub play_made
+    : {E : Type 0} (input : List ℕ) (play : Play) (rs : List Record) → rs ≡ vec_items play.records → Begins input (Ok play) → (t : Result (Vec ℕ Global) E)
+    → IfOk t (λ v. AllPlayed play.rack (map seen_as rs) (vec_items v)) → IfOk t (λ v. PlayedAs input (vec_items v))
+play_made input play rs e began (Ok v) h = (Ok play, began, subst (λ l. AllPlayed play.rack (map seen_as l) (vec_items v)) e h)
+play_made input play rs e began (Err y) h = tt
