@@ -1,4 +1,4 @@
 pub mod Reading
-pub mod Records
 pub mod Replying
 pub mod Setups
+pub mod Records

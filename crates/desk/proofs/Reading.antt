@@ -8,8 +8,8 @@ use Rattle.script.specs.Calls.{word_length}
 use Rattle.script.proofs.Wording.{length-unspaced, length-spaced}
 use Rattle.desk.specs.declared.words.Word.{Word}
 use Rattle.desk.specs.declared.words.Word.TheVariants.{Read, Play, Make, Admit, Withdraw, Find, Load, Seats}
-use Rattle.desk.specs.declared.stub.NoCall.{NoCall}
-use Rattle.desk.specs.declared.stub.NoCall.TheVariants.{Unreadable}
+use Rattle.script.specs.declared.no_call.NoCall.{NoCall}
+use Rattle.script.specs.declared.no_call.NoCall.TheVariants.{Unreadable}
 use Rattle.desk.specs.Hex.{digit_of, pair_of, bytes_after}
 use Rattle.desk.specs.Names.{name_of}
 

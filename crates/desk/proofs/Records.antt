@@ -4,7 +4,7 @@ use Rattle.std.specs.declared.alloc.Global.{Global}
 use Rattle.judges.specs.declared.points.Points.{Points}
 use Rattle.preferences.specs.declared.policy.Policy.{Policy}
 use Rattle.preferences.specs.Policies.{policy_before}
-use Rattle.rack.specs.declared.rack.Rack.{Rack}
+use Rattle.rack.specs.Table.{Table}
 use Rattle.rackfile.specs.Records.{Seen, withdraws, seen_as}
 use Rattle.rackfile.specs.declared.record.Record.{Record}
 use Rattle.playing.specs.declared.opening.Play.{Play}
@@ -14,7 +14,7 @@ use Rattle.judges.specs.Meanings.{least_good_point}
 use Rattle.desk.specs.Plays.{PlayedTo, AllPlayed, PlayedAs}
 
 pub one_more
-    : (start : Rack Points Policy) (records : List Seen) (n : ℕ) (q : Rack Points Policy) (sheet₀ out₀ lines₀ : List ℕ) (long : ℕ) (one : Seen) (r : Rack Points Policy) (sheet out lines : List ℕ)
+    : (start : Table Points Policy) (records : List Seen) (n : ℕ) (q : Table Points Policy) (sheet₀ out₀ lines₀ : List ℕ) (long : ℕ) (one : Seen) (r : Table Points Policy) (sheet out lines : List ℕ)
     → PlayedTo start records n q sheet₀ out₀ lines₀ → Plays (λ _. least_good_point) policy_before q one n sheet₀ out₀ long r sheet out → get_or records n (withdraws 0) ≡ one → lines ≡ lines₀ ++ take long out
     → PlayedTo start records (n + 1) r sheet out lines
 one_more start records n q sheet₀ out₀ lines₀ long one r sheet out lines before plays e is =

@@ -7,9 +7,9 @@ use Rattle.script.specs.Calls.{word_length}
 use Rattle.script.proofs.Wording.{length-spaced}
 use Rattle.desk.specs.declared.making.Setup.{Setup}
 use Rattle.desk.specs.Making.{setup_name, one_number, Asks, MakeRead, ReadsMake}
-use Rattle.desk.specs.Stub.{Reads}
-use Rattle.desk.specs.declared.stub.NoCall.{NoCall}
-use Rattle.desk.specs.declared.stub.NoCall.TheVariants.{Unreadable, Memory}
+use Rattle.script.specs.NoCalls.{Reads}
+use Rattle.script.specs.declared.no_call.NoCall.{NoCall}
+use Rattle.script.specs.declared.no_call.NoCall.TheVariants.{Unreadable, Memory}
 use Rattle.desk.proofs.Reading.{no_space_at, same_front, same_back}
 
 pub unspaced_asks : (rest : List ℕ) → Unspaced rest → (processors : ℕ) (setup : Setup) → Asks rest processors setup → ⊥

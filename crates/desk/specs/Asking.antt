@@ -8,9 +8,9 @@ use Rattle.preferences.specs.Policies.{policy_before}
 use Rattle.seating.specs.declared.refusal.AdmitRefusal.{AdmitRefusal}
 use Rattle.seating.specs.declared.refusal.WithdrawRefusal.{WithdrawRefusal}
 use Rattle.rack.specs.Steps.{AdmitStep, WithdrawStep}
-use Rattle.playing.specs.Playing.{task_of}
+use Rattle.tasks.specs.Tasks.{task_of}
 use Rattle.script.specs.Fields.{numbers_of}
-use Rattle.desk.specs.Kinds.{meaning_of}
+use Rattle.judges.specs.Kinds.{meaning_of}
 use Rattle.desk.specs.Desk.{RackSeen, DeskSeen}
 use Rattle.desk.specs.declared.asking.Admission.{Admission}
 use Rattle.desk.specs.Texts.{admit_text, withdraw_text}

@@ -1,5 +1,3 @@
-pub mod Stub
-pub mod Kinds
 pub mod Desk
 pub mod Unanswered
 pub mod Hex

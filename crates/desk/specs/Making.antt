@@ -3,15 +3,16 @@ use Rattle.std.specs.Prelude.{◌≡◌, ℕ, cond, List, [], ◌∷◌, ◌++�
 use Rattle.preferences.specs.declared.policy.Policy.{Policy}
 use Rattle.preferences.specs.Policies.{letter_of, policy_before}
 use Rattle.seating.specs.declared.refusal.MakeRefusal.{MakeRefusal}
-use Rattle.seating.specs.Refusals.{making, number_of}
-use Rattle.rack.specs.declared.rack.Blank.{Blank}
+use Rattle.seating.specs.declared.refused.Refused.TheVariants.{Making}
+use Rattle.seating.specs.Refusals.{number_of}
+use Rattle.rack.specs.declared.blank.Blank.{Blank}
 use Rattle.rack.specs.Steps.{MakeStep}
 use Rattle.script.specs.Fields.{Unspaced, numbers_of}
-use Rattle.desk.specs.declared.any.AnyJudge.{AnyJudge}
-use Rattle.desk.specs.declared.any.AnyJudge.TheVariants as judges
-use Rattle.desk.specs.Kinds.{meaning_of}
-use Rattle.desk.specs.declared.stub.NoCall.{NoCall}
-use Rattle.desk.specs.declared.stub.NoCall.TheVariants.{Unreadable, Memory}
+use Rattle.judges.specs.declared.any.AnyJudge.{AnyJudge}
+use Rattle.judges.specs.declared.any.AnyJudge.TheVariants as judges
+use Rattle.judges.specs.Kinds.{meaning_of}
+use Rattle.script.specs.declared.no_call.NoCall.{NoCall}
+use Rattle.script.specs.declared.no_call.NoCall.TheVariants.{Unreadable, Memory}
 use Rattle.desk.specs.Desk.{RackSeen, DeskSeen}
 use Rattle.desk.specs.declared.making.Setup.{Setup}
 
@@ -65,7 +66,7 @@ pub record Puts (processors : ℕ) (setup : Setup) (refusal : Result (Unit {0}) 
 -- `ok`, or the refusal
 abbrev pub made_text : Result (Unit {0}) MakeRefusal → List ℕ
 made_text (Ok done) = codes "ok"
-made_text (Err refusal) = codes "R" ++ decimal (number_of (making refusal))
+made_text (Err refusal) = codes "R" ++ decimal (number_of (Making refusal))
 
 pub record MakeAnswered (processors : ℕ) (setup : Setup) (text : List ℕ) (after : DeskSeen) : Type 0 where
   pub refusal : Result (Unit {0}) MakeRefusal

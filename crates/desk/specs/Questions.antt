@@ -4,10 +4,11 @@ use Rattle.std.specs.List.{flat_map}
 use Rattle.preferences.specs.Policies.{policy_before}
 use Rattle.seating.specs.declared.seat.Seat.{Seat}
 use Rattle.seating.specs.declared.refusal.QuestionRefusal.{QuestionRefusal}
-use Rattle.seating.specs.Refusals.{asking, number_of}
+use Rattle.seating.specs.declared.refused.Refused.TheVariants.{Asking}
+use Rattle.seating.specs.Refusals.{number_of}
 use Rattle.book.specs.Book.{finds, loads, lists}
 use Rattle.rack.specs.Steps.{Step}
-use Rattle.desk.specs.Kinds.{meaning_of}
+use Rattle.judges.specs.Kinds.{meaning_of}
 use Rattle.desk.specs.Desk.{RackSeen, DeskSeen}
 
 -- `NUMBER C T INSTANT`
@@ -20,7 +21,7 @@ find_text None = codes "none"
 find_text (Some a) = codes "seat " ++ (seat_text a.0 ++ (codes " " ++ decimal a.1))
 
 abbrev pub refused_text : QuestionRefusal → List ℕ
-refused_text e = codes "R" ++ decimal (number_of (asking e))
+refused_text e = codes "R" ++ decimal (number_of (Asking e))
 
 -- `ok LOAD`
 abbrev pub load_text : Result ℕ QuestionRefusal → List ℕ

@@ -1,7 +1,7 @@
 -- Calls that have no answer of their own, and what is said in its place.
 use Rattle.std.specs.Prelude.{ℕ, List, Ok, Err, codes, Result}
-use Rattle.desk.specs.declared.stub.NoCall.{NoCall}
-use Rattle.desk.specs.declared.stub.NoCall.TheVariants as call
+use Rattle.script.specs.declared.no_call.NoCall.{NoCall}
+use Rattle.script.specs.declared.no_call.NoCall.TheVariants as call
 use Rattle.desk.specs.declared.unanswered.Unanswered.{Unanswered}
 use Rattle.desk.specs.declared.unanswered.Unanswered.TheVariants.{Unreadable, NoRack, Memory}
 

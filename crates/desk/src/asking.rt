@@ -1,23 +1,23 @@
 // `admit NUMBER C T LENGTH` and `withdraw NUMBER`
 ghost use Rattle.std.specs.Prelude.{◌≡◌, replicate, IfOk, string_bytes};
-ghost use Rattle.desk.specs.Stub.{Reads};
+ghost use Rattle.script.specs.NoCalls.{Reads};
 ghost use Rattle.desk.specs.Making.{one_number};
 ghost use Rattle.desk.specs.Asking.{admission_of, Admitted, Withdrawn, AdmitAnswer, WithdrawAnswer};
 ghost use Rattle.desk.specs.Unanswered.{Says};
 
-use crate::any::AnyJudge;
+use judges::AnyJudge;
 use crate::desk::Desk;
 use crate::making::one_number;
-use crate::stub::{NoCall, numbers};
+use script::{NoCall, numbers};
 use crate::texts::{AdmitText, WithdrawText};
 use crate::unanswered::Unanswered;
 use preferences::Policy;
 use rack::Rack;
 use std::alloc::{AllocError, Global};
-use tasks::{Task, Ticks, Units};
+use tasks::Task;
 
 /// A task that asks for a seat, and the length of the sheet.
-#[derive(Clone, Copy)]
+#[derive(Clone, Copy, Debug, PartialEq, Eq)]
 pub struct Admission {
     pub task: Task,
     pub length: usize,
@@ -30,11 +30,7 @@ fn admission_from(alloc: Global, text: &str) -> Result<Admission, NoCall>
     let all = numbers(alloc, text.as_bytes())?;
     match all.as_slice() {
         [number, work, period, length] if *length <= 64 => Ok(Admission {
-            task: Task {
-                number: *number,
-                work: Units(u64::from(*work)),
-                period: Ticks(*period),
-            },
+            task: Task::of(*number, *work, *period),
             length: *length as usize,
         }),
         _ => Err(NoCall::Unreadable),

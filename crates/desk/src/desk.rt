@@ -1,5 +1,5 @@
 // What stands on the desk.
-use crate::any::AnyJudge;
+use judges::AnyJudge;
 use preferences::Policy;
 use rack::Rack;
 

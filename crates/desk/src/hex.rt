@@ -1,9 +1,9 @@
 // Bytes in hexadecimal. The kit's `hex::decode` does not hand on the error of memory that it met, so this reads the digits itself.
 ghost use Rattle.std.specs.Prelude.{◌≡◌, ◌<◌, vec_items, MatchOption};
-ghost use Rattle.desk.specs.Stub.{Reads};
+ghost use Rattle.script.specs.NoCalls.{Reads};
 ghost use Rattle.desk.specs.Hex.{digit_of, pair_of, bytes_of};
 
-use crate::stub::NoCall;
+use script::NoCall;
 use std::alloc::{AllocError, Global};
 
 // What a digit is worth.

@@ -1,7 +1,6 @@
 // The desk: the test program's calls on a rack and on files.
 #![tactic(auto)]
 
-mod any;
 mod asking;
 mod desk;
 mod files;
@@ -12,7 +11,6 @@ mod questions;
 mod replies;
 mod seats;
 mod sheets;
-mod stub;
 mod texts;
 mod unanswered;
 mod words;

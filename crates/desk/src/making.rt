@@ -1,13 +1,13 @@
 // `make M points|step F|B|W`
 ghost use Rattle.std.specs.Prelude.{◌≡◌, ◌≢◌, Some, string_bytes, MatchResult};
-ghost use Rattle.desk.specs.Stub.{Reads};
+ghost use Rattle.script.specs.NoCalls.{Reads};
 ghost use Rattle.desk.specs.Making.{setup_name, ReadsMake, Puts, MakeTold, made_text, one_number};
 ghost use Rattle.desk.specs.Unanswered.{Says};
-ghost use Rattle.desk.specs.declared.stub.NoCall.TheVariants.{Unreadable};
+ghost use Rattle.script.specs.declared.no_call.NoCall.TheVariants.{Unreadable};
 
-use crate::any::AnyJudge;
+use judges::AnyJudge;
 use crate::desk::Desk;
-use crate::stub::{NoCall, numbers};
+use script::{NoCall, numbers};
 use crate::unanswered::Unanswered;
 use preferences::Policy;
 use rack::Rack;
@@ -18,7 +18,7 @@ use std::fmt;
 use std::str::FromStr;
 
 /// What a rack is made with.
-#[derive(Clone, Copy)]
+#[derive(Clone, Copy, Debug, PartialEq, Eq)]
 pub struct Setup {
     pub judge: AnyJudge,
     pub policy: Policy,

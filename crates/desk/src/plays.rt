@@ -5,10 +5,9 @@ ghost use Rattle.desk.specs.Hex.{bytes_of};
 ghost use Rattle.desk.specs.Plays.{AllPlayed, FaultLine, PlayedAs, framed, ReadsPlay};
 
 use crate::hex::bytes_from;
-use crate::stub::NoCall;
+use script::NoCall;
 use judges::Points;
-use lines::PlayerFault;
-use playing::{Play, Stop, begin, play_record, write_fault};
+use playing::{Play, PlayerFault, Stop, begin, play_record, write_fault};
 use preferences::Policy;
 use rack::Rack;
 use rackfile::Record;
@@ -52,7 +51,7 @@ fn player_lines(alloc: Global, input: &[u8]) -> Result<Vec<u8>, AllocError>
             record_lines(alloc, &mut rack, records.as_slice())
         }
         Err(Stop::Fault(fault)) => fault_line(alloc, fault),
-        Err(Stop::Memory) => Err(AllocError),
+        Err(Stop::Memory(e)) => Err(e),
     }
 }
 

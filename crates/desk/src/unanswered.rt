@@ -3,7 +3,7 @@ ghost use Rattle.std.specs.Prelude.{◌≡◌};
 ghost use Rattle.desk.specs.Unanswered.{unread};
 ghost use Rattle.desk.specs.declared.unanswered.Unanswered.TheVariants.{Memory};
 
-use crate::stub::NoCall;
+use script::NoCall;
 use std::alloc::AllocError;
 
 /// Why a call has no answer of its own.

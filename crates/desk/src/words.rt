@@ -1,9 +1,9 @@
 // The words that the desk's calls begin with.
 ghost use Rattle.std.specs.Prelude.{◌≡◌, ℕ, List, ◌∷◌, ◌++◌, MatchOption, MatchResult, ◌≢◌};
 ghost use Rattle.desk.specs.Names.{name_of};
-ghost use Rattle.desk.specs.declared.stub.NoCall.TheVariants.{Unreadable};
+ghost use Rattle.script.specs.declared.no_call.NoCall.TheVariants.{Unreadable};
 
-use crate::stub::NoCall;
+use script::NoCall;
 use script::split_word;
 use std::str::FromStr;
 
