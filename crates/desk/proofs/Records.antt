@@ -1,5 +1,5 @@
 -- One record more.
-use Rattle.std.proofs.Common.{◌≡◌, ℕ, ◌+◌, ◌-◌, List, ◌++◌, map, get_or, take, IfOk, Ok, Err, vec_items, Result, Vec, sym, ap, ◌∙◌, subst, add-one}
+use Rattle.std.proofs.Common.{◌≡◌, ℕ, ◌+◌, List, ◌++◌, map, get_or, take, IfOk, Ok, Err, vec_items, Result, Vec, sym, subst, add-one}
 use Rattle.std.specs.declared.alloc.Global.{Global}
 use Rattle.judges.specs.declared.points.Points.{Points}
 use Rattle.preferences.specs.declared.policy.Policy.{Policy}

@@ -1,6 +1,5 @@
 -- What `make` asks for: a number, a space and the name of a setup.
-use Rattle.std.proofs.Common.{◌≡◌, ◌≢◌, ℕ, List, ◌∷◌, ◌++◌, length, drop, Result, Err, None, refl, subst, sym, ap, ◌∙◌, arith}
-use Rattle.std.proofs.lemmas.List.{length-append}
+use Rattle.std.proofs.Common.{◌≡◌, ◌≢◌, ℕ, List, ◌∷◌, ◌++◌, length, drop, Result, Err, None, refl, subst, sym, ap, ◌∙◌}
 use Rattle.std.proofs.lemmas.Option.{none-some}
 use Rattle.script.specs.Fields.{Unspaced}
 use Rattle.script.specs.Calls.{word_length}

@@ -5,14 +5,14 @@ ghost use Rattle.desk.specs.Making.{one_number};
 ghost use Rattle.desk.specs.Asking.{admission_of, Admitted, Withdrawn, AdmitAnswer, WithdrawAnswer};
 ghost use Rattle.desk.specs.Unanswered.{Says};
 
-use judges::AnyJudge;
 use crate::desk::Desk;
 use crate::making::one_number;
-use script::{NoCall, numbers};
 use crate::texts::{AdmitText, WithdrawText};
 use crate::unanswered::Unanswered;
+use judges::AnyJudge;
 use preferences::Policy;
 use rack::Rack;
+use script::{NoCall, numbers};
 use std::alloc::{AllocError, Global};
 use tasks::Task;
 

@@ -5,13 +5,12 @@ ghost use Rattle.desk.specs.Making.{setup_name, ReadsMake, Puts, MakeTold, made_
 ghost use Rattle.desk.specs.Unanswered.{Says};
 ghost use Rattle.script.specs.declared.no_call.NoCall.TheVariants.{Unreadable};
 
-use judges::AnyJudge;
 use crate::desk::Desk;
-use script::{NoCall, numbers};
 use crate::unanswered::Unanswered;
+use judges::AnyJudge;
 use preferences::Policy;
 use rack::Rack;
-use script::split_word;
+use script::{NoCall, numbers, split_word};
 use seating::MakeRefusal;
 use std::alloc::Global;
 use std::fmt;

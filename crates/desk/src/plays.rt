@@ -5,12 +5,12 @@ ghost use Rattle.desk.specs.Hex.{bytes_of};
 ghost use Rattle.desk.specs.Plays.{AllPlayed, FaultLine, PlayedAs, framed, ReadsPlay};
 
 use crate::hex::bytes_from;
-use script::NoCall;
 use judges::Points;
 use playing::{Play, PlayerFault, Stop, begin, play_record, write_fault};
 use preferences::Policy;
 use rack::Rack;
 use rackfile::Record;
+use script::NoCall;
 use std::alloc::{AllocError, Global};
 
 // The lines of the records, played one after the other.

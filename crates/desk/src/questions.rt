@@ -6,7 +6,7 @@ ghost use Rattle.desk.specs.Unanswered.{Says};
 
 use crate::desk::Desk;
 use crate::making::one_number;
-use crate::seats::{FindText, SeatsText, LoadText};
+use crate::seats::{FindText, LoadText, SeatsText};
 use crate::unanswered::Unanswered;
 use std::alloc::Global;
 

@@ -24,12 +24,7 @@ fn read(alloc: Global, rest: &str) -> Result<String, Unanswered>
 }
 
 // The answer to a call, or why it has none of its own.
-fn answer(
-    alloc: Global,
-    desk: &mut Desk,
-    word: Word,
-    rest: &str,
-) -> Result<Vec<u8>, Unanswered>
+fn answer(alloc: Global, desk: &mut Desk, word: Word, rest: &str) -> Result<Vec<u8>, Unanswered>
     ensures { Says vec_items (λ text. Told word rest.now desk.old text desk.new) result }
 {
     match word {

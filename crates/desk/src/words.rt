@@ -3,8 +3,7 @@ ghost use Rattle.std.specs.Prelude.{◌≡◌, ℕ, List, ◌∷◌, ◌++◌, M
 ghost use Rattle.desk.specs.Names.{name_of};
 ghost use Rattle.script.specs.declared.no_call.NoCall.TheVariants.{Unreadable};
 
-use script::NoCall;
-use script::split_word;
+use script::{NoCall, split_word};
 use std::str::FromStr;
 
 /// The word of a call.
