@@ -4,8 +4,7 @@ use Rattle.std.specs.List.{insert}
 use Rattle.std.proofs.lemmas.List.{take_all}
 use Rattle.tasks.specs.declared.task.Task.{Task}
 use Rattle.tasks.specs.Priority.{joined}
-use Rattle.seating.specs.declared.seat.Seat.{Seat}
-use Rattle.seating.specs.Seats.{tasks_of, place_of}
+use Rattle.seating.specs.Seats.{place_of}
 use Rattle.seating.proofs.Placing.{length-tasks, joined_at_place, place_le}
 
 pub insert-is-joined : (x : Task) (ts us : List Task) (at : ℕ) → at ≡ place_of x ts → us ≡ ts → insert us at x ≡ joined x ts

@@ -1,5 +1,5 @@
 -- The claim over every run of a rack.
-use Rattle.std.proofs.Common.{◌≡◌, ℕ, ◌≤◌, List, [], ◌∷◌, replicate, sym, ap, ◌∙◌, subst}
+use Rattle.std.proofs.Common.{◌≡◌, ℕ, ◌≤◌, List, [], ◌∷◌, replicate, sym, ap, subst}
 use Rattle.judges.specs.Laws.{Meaning, JudgeLaws}
 use Rattle.preferences.specs.Laws.{Relation}
 use Rattle.seating.specs.Seats.{Lists}

@@ -1,5 +1,5 @@
 -- A sound rack stays sound: whatever a call does, each processor is kept well and no number is seated twice.
-use Rattle.std.proofs.Common.{◌≡◌, ℕ, ◌+◌, ◌<◌, ◌≤◌, ◌≢◌, true, List, [], map, length, get_or, take, set, replicate, Some, Ok, Err, Result, inl, inr, refl, sym, ap, ◌∙◌, subst, ⊎_elim, arith, length-set}
+use Rattle.std.proofs.Common.{◌≡◌, ℕ, ◌+◌, ◌<◌, ◌≤◌, ◌≢◌, true, List, [], map, length, get_or, take, set, replicate, Ok, Err, Result, inl, inr, refl, sym, ap, ◌∙◌, subst, ⊎_elim, arith, length-set}
 use Rattle.std.specs.List.{remove, refill}
 use Rattle.std.proofs.lemmas.List.{get_or-set_same, get_or-set_other, get_or_default, get_or-map, get_or-replicate, length-replicate}
 use Rattle.std.proofs.lemmas.List.Edits.{length-remove}
@@ -16,8 +16,8 @@ use Rattle.preferences.specs.Laws.{Relation}
 use Rattle.seating.specs.declared.seat.Seat.{Seat}
 use Rattle.seating.specs.declared.refusal.AdmitRefusal.{AdmitRefusal}
 use Rattle.seating.specs.declared.refusal.WithdrawRefusal.{WithdrawRefusal}
-use Rattle.seating.specs.Seats.{Lists, tasks_of, no_ticks, no_seat, place_of, all_keep_good, numbers, all_differ}
-use Rattle.seating.specs.Admission.{on, said, Joins, Admits}
+use Rattle.seating.specs.Seats.{Lists, tasks_of, no_ticks, no_seat, numbers, all_differ}
+use Rattle.seating.specs.Admission.{on, Joins, Admits}
 use Rattle.seating.specs.Withdrawal.{SitsAt, Withdraws}
 use Rattle.seating.proofs.Keeping.{good_joined, tasks_removed, good_removed}
 use Rattle.seating.proofs.Limiting.{within_joined, within_removed, priority_removed}

@@ -13,7 +13,7 @@ use Rattle.seating.specs.Admission.{said}
 use Rattle.seating.proofs.Placing.{length-tasks, length-joined, place_le}
 use Rattle.rack.specs.declared.trial.Declined.{Declined}
 use Rattle.rack.specs.declared.trial.Declined.TheVariants.{Unfit}
-use Rattle.rack.specs.Trials.{AllSaid, NoneAt, Judged, Took, Declines}
+use Rattle.rack.specs.Trials.{AllSaid, Judged, Took, Declines}
 
 ok_or_err : {X E : Type 0} (o : Option X) (e d : E) → ok_or o e ≡ Err d → (o ≡ None) × (d ≡ e)
 ok_or_err None e d h = (refl, cc)

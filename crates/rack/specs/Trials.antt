@@ -9,7 +9,7 @@ use Rattle.judges.specs.Laws.{Meaning}
 use Rattle.seating.specs.declared.seat.Seat.{Seat}
 use Rattle.seating.specs.Seats.{tasks_of, no_ticks, no_seat, place_of}
 use Rattle.seating.specs.Admission.{said}
-use Rattle.seating.specs.Judging.{AllGiven, FirstNone}
+use Rattle.seating.specs.Judging.{FirstNone}
 use Rattle.rack.specs.declared.trial.Trial.{Trial}
 use Rattle.rack.specs.declared.trial.Declined.{Declined}
 use Rattle.rack.specs.declared.trial.Declined.TheVariants.{Full, Unfit}

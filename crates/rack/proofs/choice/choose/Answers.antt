@@ -1,7 +1,5 @@
-use Rattle.std.proofs.Common.{◌≡◌, List, [], get_or, sym, ap, ◌∙◌}
+use Rattle.std.proofs.Common.{◌≡◌, [], get_or, sym, ap, ◌∙◌}
 use Rattle.std.proofs.lemmas.List.{get_or_default}
-use Rattle.seating.specs.declared.seat.Seat.{Seat}
-use Rattle.seating.specs.Admission.{seen_with}
 use Rattle.rack.proofs.Bests.{offered, declined}
 use Rattle.rack.proofs.choice.choose.Goals.{in-Ok, in-Err}
 use Rattle.rack.proofs.choice.choose.Goals as goal
@@ -19,8 +17,8 @@ loop-p-preserved g c =
     elim c.match-try_on.branch [
       | in-Ok w ↦ record {
         chosen = offered mean bef laws ps c.args.newcomer p c.seats.result.now seen (g.J.Judge.meaning c.loop-p.judge) inv.judge c.loop-p.choice inv.chosen
-            (g.P.Preference.before c.loop-p.preference) w.in-Ok.trial w.new-in-Ok.result c.match-try_on.choice inv.preference
-            (w.new-in-Ok.ensures ∙ ap (λ (l : List Seat). record { contender = seen_with l p; trial = w.in-Ok.trial }) (sym c.seats.ensures.list)) (w.choice-is ∙ w.offer.ensures.best) w.in-Ok.ensures.tried;
+            (g.P.Preference.before c.loop-p.preference) w.in-Ok.trial w.new-in-Ok.result c.index-processors-p.result w.offer.new.self c.match-try_on.choice inv.preference
+            c.seats.ensures.list w.new-in-Ok.ensures w.offer.ensures.best w.choice-is w.in-Ok.ensures.tried;
         judge = c.try_on.ensures.same ∙ inv.judge;
         preference = ap g.P.Preference.before w.preference-is ∙ w.offer.ensures.same ∙ inv.preference;
       }

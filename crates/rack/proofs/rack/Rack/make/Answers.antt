@@ -1,4 +1,4 @@
-use Rattle.std.proofs.Common.{◌≤◌, leb, List, [], length, sym, refl, ap, ◌∙◌, subst}
+use Rattle.std.proofs.Common.{leb, List, [], length, sym, refl, ap, ◌∙◌, subst}
 use Rattle.std.proofs.lemmas.Bool.{and_parts, leb-true}
 use Rattle.std.proofs.lemmas.List.{length-replicate}
 use Rattle.seating.specs.declared.seat.Seat.{Seat}

@@ -1,5 +1,4 @@
-use Rattle.std.proofs.Common.{◌≡◌, ℕ, ◌++◌, List, length, drop, Some, None, Option, sym, refl, ap, ◌∙◌, subst, inr}
-use Rattle.seating.specs.Seats.{Lists}
+use Rattle.std.proofs.Common.{ℕ, ◌++◌, List, length, drop, None, Option, refl, ap, ◌∙◌, subst, inr}
 use Rattle.rack.specs.declared.choice.Taker.{Taker}
 use Rattle.rack.specs.Table.{Table, Sound}
 use Rattle.rack.specs.Choices.{Best}

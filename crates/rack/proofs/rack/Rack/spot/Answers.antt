@@ -1,6 +1,6 @@
-use Rattle.std.proofs.Common.{◌≡◌, List, [], get_or, Some, None, sym, ap, ◌∙◌, subst}
-use Rattle.std.proofs.lemmas.List.{get_or_default, at_drop_all}
-use Rattle.seating.specs.Seats.{Lists, seated}
+use Rattle.std.proofs.Common.{◌≡◌, [], get_or, Some, None, sym, ap, ◌∙◌, subst}
+use Rattle.std.proofs.lemmas.List.{get_or_default}
+use Rattle.seating.specs.Seats.{Lists}
 use Rattle.seating.specs.Withdrawal.{SitsAt}
 use Rattle.seating.proofs.Spotting.{first_spot}
 use Rattle.rack.specs.Table.{Table, Sound}

@@ -1,6 +1,6 @@
-use Rattle.std.proofs.Common.{◌≡◌, ℕ, Option, ap, subst}
+use Rattle.std.proofs.Common.{ℕ, Option, ap, subst}
 use Rattle.rack.specs.Spots.{SpotOn}
-use Rattle.rack.specs.Table.{Table, Sound}
+use Rattle.rack.specs.Table.{Table}
 use Rattle.rack.proofs.Soundness.{left_so}
 use Rattle.rack.proofs.rack.Rack.withdraw.Goals as goal
 

@@ -1,4 +1,4 @@
-use Rattle.std.proofs.Common.{◌+◌, List, length, ap, ◌∙◌, arith}
+use Rattle.std.proofs.Common.{◌+◌, List, ap, ◌∙◌, arith}
 use Rattle.std.specs.List.{remove}
 use Rattle.std.proofs.lemmas.List.Edits.{length-between}
 use Rattle.seating.specs.declared.seat.Seat.{Seat}

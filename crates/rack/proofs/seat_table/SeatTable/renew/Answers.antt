@@ -1,8 +1,7 @@
-use Rattle.std.proofs.Common.{◌≡◌, List, get_or, set, sym, ap, ◌∙◌, subst, arith}
+use Rattle.std.proofs.Common.{List, get_or, set, ap, ◌∙◌, arith}
 use lib.Seq.{take-set-lt}
 use Rattle.seating.specs.declared.seat.Seat.{Seat}
 use Rattle.seating.specs.Seats.{with_instant, no_seat}
-use Rattle.rack.specs.Renewed.{renewed}
 use Rattle.rack.proofs.Taken.{length-taken}
 use Rattle.rack.proofs.seat_table.SeatTable.renew.Goals as goal
 
