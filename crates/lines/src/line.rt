@@ -1,6 +1,7 @@
 // One line of the player.
-ghost use Rattle.std.specs.Prelude.{◌≡◌, ◌+◌, ◌≤◌, ◌++◌, true, codes};
+ghost use Rattle.std.specs.Prelude.{◌≡◌, ◌+◌, ◌≤◌, ◌++◌, true, length, codes};
 ghost use Rattle.arrayvec.specs.ArrayVec.{array_vec_len};
+ghost use Rattle.rackfile.specs.Records.{length_allowed};
 ghost use Rattle.lines.specs.Texts.{seen_as, head_text, tail_text, writable};
 ghost use Rattle.lines.specs.Writing.{Written};
 
@@ -41,14 +42,19 @@ pub enum Line<'a> {
     },
 }
 
-// Whether a line can be written: a label has 1 to 16 bytes.
+// Whether a label may be written.
+fn is_label(label: &[u8]) -> bool
+    ensures { result ≡ length_allowed (length label.now) }
+{
+    1 <= label.len() && label.len() <= 16
+}
+
+// Whether a line can be written.
 fn is_writable(line: Line<'_>) -> bool
     ensures { result ≡ writable (seen_as line.entry) }
 {
     match line {
-        Line::Admitted { label, .. } | Line::NotAdmitted { label, .. } => {
-            1 <= label.len() && label.len() <= 16
-        }
+        Line::Admitted { label, .. } | Line::NotAdmitted { label, .. } => is_label(label),
         _ => true,
     }
 }
