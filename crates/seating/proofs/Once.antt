@@ -85,9 +85,9 @@ module _ (meaning : Meaning) (before : Relation) (laws : PreferenceLaws before) 
   same_taker p q t u s₁ s₂ b₁ b₂ f g = elim (cases_eq p q) [
     | inl e ↦ e
     | inr ne ↦
-      let a = f.preferred.first q g.preferred.there (λ e. ne (sym e)) g.preferred.takes in
-      let c = g.preferred.first p f.preferred.there ne f.preferred.takes in
-      absurd (grind (arith, laws.one_of_two (as_seen b p) (as_seen b q) ne))
+        let a = f.preferred.first q g.preferred.there (λ e. ne (sym e)) g.preferred.takes in
+        let c = g.preferred.first p f.preferred.there ne f.preferred.takes in
+        absurd (grind (arith, laws.one_of_two (as_seen b p) (as_seen b q) ne))
   ]
 
   grants_once : (p q : ℕ) (t u : Ticks) (s₁ s₂ : List ℕ) (b₁ b₂ : Lists) → p ≡ q → Granted meaning before b x sheet p t s₁ b₁ → Granted meaning before b x sheet q u s₂ b₂ → (t ≡ u) × (s₁ ≡ s₂) × (b₁ ≡ b₂)
