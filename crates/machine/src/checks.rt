@@ -58,7 +58,8 @@ fn free_from(instant: Ticks, period: Ticks) -> Ticks
     Ticks(instant.0 + period.0)
 }
 
-// Whether the releases are lawful, in one pass over them.
+// Whether the releases are lawful, in one pass over them. The pass carries the last instant, and for each place (of fixed memory, 33) when
+// it is free: a chain that carries both is no plainer.
 fn is_lawful(tasks: &[Task], horizon: Ticks, releases: &[Release]) -> bool
     requires few { length tasks.now ≤ 33 }
     requires limits { all_within tasks.now ≡ true }

@@ -14,7 +14,7 @@ pub(crate) enum Event {
     Run,
 }
 
-// What an event showed: nothing, a missed deadline, or a tick in which work was done.
+// What an event showed: nothing, a missed deadline, or a tick in which work was done. Three cases, so neither an Option nor a flag.
 #[derive(Clone, Copy)]
 pub(crate) enum Mark {
     Quiet,
@@ -48,7 +48,7 @@ fn at_deadline(deadline: Ticks, instant: Ticks) -> Mark
     }
 }
 
-// A task after an event, and what the event showed.
+// A task after an event, and what the event showed: each step is a match of the task's own state together with the event.
 pub(crate) fn react(state: State, event: Event) -> (State, Mark)
     ensures { result ≡ after state event }
 {

@@ -8,7 +8,7 @@ use crate::plan::Plan;
 use crate::state::{Moment, Outcome, State};
 
 // How far a run of a plan has come: the releases before the cursor have come, and the deadlines of the clock's instant are to be looked at.
-// The states stand beside it, since a field of a struct with ghost fields cannot be lent yet.
+// The states stand beside it: tried as a field, which the borrow checker does not cover (a field of a struct with ghost fields, lent as `&mut`).
 #[derive(Drop)]
 struct Run<'a> {
     plan: Plan<'a>,

@@ -29,7 +29,7 @@ pub struct Outcome {
     pub busy: Ticks,
 }
 
-/// What one instant came to: the place that missed, or the ticks in which work was done, 1 or 0.
+/// What one instant came to: the place that missed, or the ticks in which work was done, 1 or 0. Both carry a value, so it is no Option.
 #[derive(Clone, Copy, Debug, PartialEq, Eq)]
 pub enum Moment {
     Missed(usize),
