@@ -1,10 +1,12 @@
 -- The published test: its W(t), its scheduling points, and who passes it.
-use Rattle.std.proofs.Common.{◌≡◌, ℕ, zero, suc, ◌*◌, ◌/◌, ◌%◌, ◌<◌, ◌≤◌, true, eqb, leb, List, [], ◌∷◌, length, get_or, sym, subst, inl, inr, div-add-mod', le-div_iff_mul-le, zero-mul, mul-one, arith, All}
+use Rattle.std.proofs.Common.{◌≡◌, ℕ, ◌*◌, ◌/◌, ◌%◌, ◌<◌, ◌≤◌, true, eqb, leb, List, ◌∷◌, length, get_or, sym, subst, inl, inr, div-add-mod', le-div_iff_mul-le, zero-mul, mul-one, arith, All, ap, ◌∙◌}
 use native.Mathlib.Nat.{mul-mod_left}
-use Rattle.std.proofs.lemmas.Bool.{cases_lt, or_cases, or_left, or_right, eqb-true, eq-eqb, false≢true, le-leb}
+use Rattle.std.proofs.lemmas.Bool.{cases_lt, eqb-true, eq-eqb, le-leb}
 use Rattle.std.proofs.lemmas.Nat.{mul-le}
 use Rattle.std.proofs.lemmas.List.Elements.{All-get_or, All-tail}
 use Rattle.std.proofs.lemmas.List.Sums.{list_all-from_AllPass}
+use Rattle.std.proofs.lemmas.List.Folds.{Any-from_list_any, list_any_at}
+use Rattle.std.proofs.lemmas.List.{get_or_default}
 use Rattle.tasks.specs.declared.task.Task.{Task}
 use Rattle.tasks.specs.Rounding.{up}
 use Rattle.tasks.specs.Demand.{good, no_task, periods_exist}
@@ -32,16 +34,12 @@ demand_is_total_work x above t a b =
 
 -- which period it is a multiple of
 multiple_find : (ys : List Task) (t : ℕ) → multiple_of_one ys t ≡ true → (j : ℕ) × (j < length ys) × (t % (get_or ys j no_task).period.0 ≡ 0)
-multiple_find [] t h = absurd (false≢true h)
-multiple_find (y ∷ ys) t h = elim (or_cases (eqb (t % y.period.0) 0) (multiple_of_one ys t) h) [
-  | inl e ↦ (0, omega arith, eqb-true (t % y.period.0) 0 e)
-  | inr e ↦ let r = multiple_find ys t e in (suc r.0, omega (arith, r.1), r.2)
-]
+multiple_find ys t h =
+    let a = Any-from_list_any (λ (y : Task). eqb (t % y.period.0) 0) ys h in
+    (a.0, a.2, eqb-true (t % (get_or ys a.0 no_task).period.0) 0 (ap (λ (y : Task). eqb (t % y.period.0) 0) (get_or_default ys a.0 no_task a.1 a.2 ∙ a.3) ∙ a.4))
 
 multiple_from : (ys : List Task) (t j : ℕ) → j < length ys → t % (get_or ys j no_task).period.0 ≡ 0 → multiple_of_one ys t ≡ true
-multiple_from [] t j l e = absurd (omega arith)
-multiple_from (y ∷ ys) t zero l e = or_left (eqb (t % y.period.0) 0) (multiple_of_one ys t) (eq-eqb (t % y.period.0) 0 e)
-multiple_from (y ∷ ys) t (suc j) l e = or_right (eqb (t % y.period.0) 0) (multiple_of_one ys t) (multiple_from ys t j (omega arith) e)
+multiple_from ys t j l e = list_any_at (λ (y : Task). eqb (t % y.period.0) 0) ys j no_task l (eq-eqb (t % (get_or ys j no_task).period.0) 0 e)
 
 pub points_are_published : PointsArePublished
 points_are_published x above t h = (to, from)
