@@ -1,5 +1,5 @@
 -- A sound rack stays sound: whatever a call does, each processor is kept well and no number is seated twice.
-use Rattle.std.proofs.Common.{◌≡◌, ℕ, ◌+◌, ◌<◌, ◌≤◌, ◌≢◌, true, List, [], map, length, get_or, take, set, replicate, Ok, Err, Result, inl, inr, refl, sym, ap, ◌∙◌, subst, ⊎_elim, arith, length-set}
+use Rattle.std.proofs.Common.{◌≡◌, ℕ, ◌+◌, ◌<◌, ◌≤◌, ◌≢◌, true, List, [], map, length, get_or, take, set, replicate, Some, Option, Ok, Err, Result, inl, inr, refl, sym, ap, ◌∙◌, subst, ⊎_elim, arith, length-set}
 use Rattle.std.specs.List.{remove, refill}
 use Rattle.std.proofs.lemmas.List.{get_or-set_same, get_or-set_other, get_or_default, get_or-map, get_or-replicate, length-replicate}
 use Rattle.std.proofs.lemmas.List.Edits.{length-remove}
@@ -24,6 +24,7 @@ use Rattle.seating.proofs.Limiting.{within_joined, within_removed, priority_remo
 use Rattle.seating.proofs.Numbering.{differ_joined, differ_left, differ_none}
 use Rattle.seating.proofs.Placing.{length-tasks, length-joined}
 use Rattle.book.specs.Book.{KeptWell}
+use Rattle.rack.specs.Spots.{SpotOn}
 use Rattle.rack.specs.Table.{Sound}
 use Rattle.rack.proofs.Passing.{passing}
 use Rattle.rack.proofs.Taken.{refill_set}
@@ -83,8 +84,9 @@ module _ (b : Lists) (sound : Sound b) where
       changed p (remove ss at) there (removed_kept ss at within (sound.kept_well p there)) (differ_left b p at (remove ss at) there sound.differ (tasks_removed ss at))
 
   -- a seat has left one of the processors: the lists as the code left them
-  pub left_so : (items lent : Lists) → items ≡ b → lent ≡ items → (d new : List Seat) (n p at : ℕ) → SitsAt b n p at → new ≡ remove (get_or lent p d) at → Sound (refill (length items) items (set lent p new))
-  left_so items lent is now d new n p at sits e =
+  pub left_so : (items lent : Lists) → items ≡ b → lent ≡ items → (d new : List Seat) (n p at : ℕ) (o : Option (ℕ × ℕ)) → o ≡ Some (p, at) → SpotOn n b o → new ≡ remove (get_or lent p d) at → Sound (refill (length items) items (set lent p new))
+  left_so items lent is now d new n p at o found spot e =
+      let sits : SitsAt b n p at = subst (λ (k : Option (ℕ × ℕ)). SpotOn n b k) found spot in
       let old = ap (λ (l : Lists). remove (get_or l p d) at) (now ∙ is) ∙ ap (λ (l : List Seat). remove l at) (sym (get_or_default b p [] d sits.there)) in
       subst Sound (sym (refill_set items lent p new now ∙ ap (λ (l : Lists). set l p new) is ∙ ap (λ (l : List Seat). set b p l) (e ∙ old))) (left_sound p at sits.there sits.within)
 

@@ -12,7 +12,7 @@ use std::marker::Model;
 use tasks::Task;
 
 /// The seats of a processor, each of a task within the limits, and the sum of their shares.
-#[derive(Drop)]
+#[derive(Default, Drop)]
 pub struct Processor {
     table: SeatTable,
     load: u64,
@@ -102,16 +102,5 @@ impl Processor {
         let seat = self.table.remove(at);
         self.load = less(self.load, seat.task);
         seat
-    }
-}
-
-impl Default for Processor {
-    ghost is_default = { λ p. p ≡ [] };
-
-    fn default() -> Processor {
-        Processor {
-            table: SeatTable::default(),
-            load: 0,
-        }
     }
 }

@@ -89,6 +89,7 @@ impl SeatTable {
     }
 }
 
+// By hand: a seat has no default of its own.
 impl Default for SeatTable {
     ghost is_default = { λ t. t ≡ [] };
 
