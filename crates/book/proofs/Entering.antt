@@ -13,21 +13,21 @@ use Rattle.seating.proofs.Placing.{length-tasks, length-joined, place_le, take-j
 use Rattle.book.specs.Book.{given, judged, with_newcomer}
 
 -- the seats of tasks that keep what the judge says of each are those tasks, judged
-pub judged_is : (mean : Meaning) (above : List Task) (rest : List Seat)
-    → ((k : ℕ) → k < length rest → mean (get_or (tasks_of rest) k no_task) (above ++ take k (tasks_of rest)) ≡ Some (get_or rest k no_seat).instant)
-    → judged mean above (tasks_of rest) ≡ rest
-judged_is mean above [] h = refl
-judged_is mean above (s ∷ rest) h =
-    let first : given (mean s.task above) ≡ s.instant = ap (λ (l : List Task). given (mean s.task l)) (sym (append-nil above)) ∙ ap given (h 0 (omega arith)) in
-    let others = judged_is mean (above ++ s.task ∷ []) rest (λ k lt. ap (λ (l : List Task). mean (get_or (tasks_of rest) k no_task) l) (append_assoc above (s.task ∷ []) (take k (tasks_of rest))) ∙ h (suc k) (omega arith)) in
-    ap (λ (t : Ticks). record { task = s.task; instant = t } ∷ judged mean (above ++ s.task ∷ []) (tasks_of rest)) first ∙ ap (λ (l : List Seat). s ∷ l) others
+pub judged_is : (meaning : Meaning) (above : List Task) (rest : List Seat)
+    → ((k : ℕ) → k < length rest → meaning (get_or (tasks_of rest) k no_task) (above ++ take k (tasks_of rest)) ≡ Some (get_or rest k no_seat).instant)
+    → judged meaning above (tasks_of rest) ≡ rest
+judged_is meaning above [] h = refl
+judged_is meaning above (s ∷ rest) h =
+    let first : given (meaning s.task above) ≡ s.instant = ap (λ (l : List Task). given (meaning s.task l)) (sym (append-nil above)) ∙ ap given (h 0 (omega arith)) in
+    let others = judged_is meaning (above ++ s.task ∷ []) rest (λ k lt. ap (λ (l : List Task). meaning (get_or (tasks_of rest) k no_task) l) (append_assoc above (s.task ∷ []) (take k (tasks_of rest))) ∙ h (suc k) (omega arith)) in
+    ap (λ (t : Ticks). record { task = s.task; instant = t } ∷ judged meaning (above ++ s.task ∷ []) (tasks_of rest)) first ∙ ap (λ (l : List Seat). s ∷ l) others
 
 split_take : {X : Type 0} (n k : ℕ) (l : List X) → n ≤ length l → take (n + k) l ≡ take n l ++ take k (drop n l)
 split_take n k l le =
     sym (take-append-drop n (take (n + k) l)) ∙ ap (λ z. z ++ drop n (take (n + k) l)) (take-take n (n + k) l (omega arith)) ∙ ap (λ z. take n l ++ z) (drop-take n k l)
 
-pub joins_as_written : (mean : Meaning) (x : Task) (ss new : List Seat) → Joins mean x ss new → new ≡ with_newcomer mean x ss
-joins_as_written mean x ss new j =
+pub joins_as_written : (meaning : Meaning) (x : Task) (ss new : List Seat) → Joins meaning x ss new → new ≡ with_newcomer meaning x ss
+joins_as_written meaning x ss new j =
     let ts = tasks_of ss in
     let p = place_of x ts in
     let all = joined x ts in
@@ -36,15 +36,15 @@ joins_as_written mean x ss new j =
     let long_new : length new ≡ length all = sym (length-tasks new) ∙ ap (length {A = Task}) j.tasks in
     let at_place : drop p all ≡ x ∷ drop p ts = ap (λ (l : List Task). drop p l) (joined_at_place x ts) ∙ dropped (take p ts) (x ∷ drop p ts) p (length-take-le p ts le) in
     let back : tasks_of (drop p new) ≡ drop p all = sym (drop-map (λ (s : Seat). s.task) p new) ∙ ap (λ (l : List Task). drop p l) j.tasks in
-    let rest = judged_is mean (take p ts) (drop p new) (λ k lt.
-    ap (λ (l : List Task). mean (get_or l k no_task) (take p ts ++ take k l)) back
-    ∙ ap (λ (y : Task). mean y (take p ts ++ take k (drop p all))) (get_or-drop p all k no_task)
-    ∙ ap (λ (l : List Task). mean (get_or all (p + k) no_task) (l ++ take k (drop p all))) (sym (take-joined x ts p (omega arith)))
-    ∙ ap (λ (l : List Task). mean (get_or all (p + k) no_task) l) (sym (split_take p k all (omega (arith, le, length-tasks ss))))
+    let rest = judged_is meaning (take p ts) (drop p new) (λ k lt.
+    ap (λ (l : List Task). meaning (get_or l k no_task) (take p ts ++ take k l)) back
+    ∙ ap (λ (y : Task). meaning y (take p ts ++ take k (drop p all))) (get_or-drop p all k no_task)
+    ∙ ap (λ (l : List Task). meaning (get_or all (p + k) no_task) (l ++ take k (drop p all))) (sym (take-joined x ts p (omega arith)))
+    ∙ ap (λ (l : List Task). meaning (get_or all (p + k) no_task) l) (sym (split_take p k all (omega (arith, le, length-tasks ss))))
     ∙ j.judged (p + k) (omega arith) (omega (arith, lt, length-drop p new))
     ∙ ap (λ (s : Seat). Some s.instant) (sym (get_or-drop p new k no_seat))) in
     sym (take-append-drop p new) ∙ ap (λ (l : List Seat). l ++ drop p new) j.above
-    ∙ ap (λ (l : List Seat). take p ss ++ l) (sym rest ∙ ap (λ (l : List Task). judged mean (take p ts) l) (back ∙ at_place))
+    ∙ ap (λ (l : List Seat). take p ss ++ l) (sym rest ∙ ap (λ (l : List Task). judged meaning (take p ts) l) (back ∙ at_place))
   where
     dropped : (front behind : List Task) (n : ℕ) → length front ≡ n → drop n (front ++ behind) ≡ behind
     dropped [] behind zero e = refl

@@ -1,7 +1,7 @@
 -- What a withdrawal leaves is the list without its task, as the book writes it.
 use Rattle.std.proofs.Common.{◌≡◌, ℕ, zero, suc, ◌<◌, true, eqb, List, [], ◌∷◌, length, get_or, set, sym, ap, ◌∙◌, arith}
 use Rattle.std.specs.List.{remove}
-use Rattle.std.proofs.lemmas.Bool.{eq-eqb, ne_eqb, cond-true, cond-false}
+use Rattle.std.proofs.lemmas.Bool.{ne_eqb, cond-false}
 use Rattle.tasks.specs.declared.units.Ticks.{Ticks}
 use Rattle.tasks.specs.declared.units.Units.{Units}
 use Rattle.seating.specs.declared.seat.Seat.{Seat}
@@ -12,7 +12,7 @@ use Rattle.book.specs.Book.{without}
 
 without_first : (n : ℕ) (ss : List Seat) (at : ℕ) → at < length ss → (get_or ss at no_seat).task.number ≡ n → ((k : ℕ) → k < at → (get_or ss k no_seat).task.number ≡ n → ⊥) → without n ss ≡ remove ss at
 without_first n [] at lt e none = absurd (omega arith)
-without_first n (s ∷ ss) zero lt e none = cond-true (eqb s.task.number n) ss (s ∷ without n ss) (eq-eqb s.task.number n e)
+without_first n (s ∷ ss) zero lt e none = grind arith
 without_first n (s ∷ ss) (suc at) lt e none =
     cond-false (eqb s.task.number n) ss (s ∷ without n ss) (ne_eqb s.task.number n (none 0 (omega arith)))
     ∙ ap (λ (l : List Seat). s ∷ l) (without_first n ss at (omega arith) e (λ k h. none (suc k) (omega arith)))

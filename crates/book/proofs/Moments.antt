@@ -6,6 +6,7 @@ use Rattle.tasks.specs.declared.task.Task.{Task}
 use Rattle.tasks.specs.Limits.{within_limits}
 use Rattle.tasks.specs.Priority.{joined}
 use Rattle.tasks.specs.Demand.{Fits}
+use Rattle.tasks.proofs.Priority.{joined_by_priority}
 use Rattle.machine.specs.Promises.{CanMiss}
 use Rattle.schedule.proofs.Enough.{fitting_list_is_safe}
 use Rattle.schedule.proofs.Exactly.{unfit_exactly_when_no_order}
@@ -14,7 +15,7 @@ use Rattle.seating.specs.declared.seat.Seat.{Seat}
 use Rattle.seating.specs.Seats.{tasks_of, no_seat, all_keep_good, numbers, all_differ}
 use Rattle.seating.proofs.Keeping.{each_keeps}
 use Rattle.seating.proofs.Limiting.{within_joined}
-use Rattle.seating.proofs.Placing.{length-tasks, priority_joined}
+use Rattle.seating.proofs.Placing.{length-tasks}
 use Rattle.book.specs.Book.{Book, seats_on, tasks_on, KeptWell, Fails, Passes, MissesInEachOrder, AtMoment}
 
 pub kept_fits : (ss : List Seat) → all_keep_good ss ≡ true → Fits (tasks_of ss)
@@ -30,7 +31,7 @@ each_order x ts = (
 fails_when : (b : Book) (x : Task) (p : ℕ) → within_limits x ≡ true → KeptWell (seats_on b p) → Fails b x p ↔ MissesInEachOrder (x ∷ tasks_on b p)
 fails_when b x p lim k =
     let ts = tasks_on b p in
-    let one = unfit_exactly_when_no_order (joined x ts) (within_joined x ts lim k.limits) (priority_joined x ts k.order) in
+    let one = unfit_exactly_when_no_order (joined x ts) (within_joined x ts lim k.limits) (joined_by_priority x ts k.order) in
     let two = each_order x ts in
     (λ h. two.0 (one.0 h), λ h. one.1 (two.1 h))
 

@@ -13,37 +13,37 @@ use Rattle.seating.specs.declared.refusal.QuestionRefusal.{QuestionRefusal}
 use Rattle.seating.specs.declared.refusal.QuestionRefusal.TheVariants.{NoProcessor}
 use Rattle.seating.specs.Seats.{tasks_of, load_of, no_seat, seated}
 use Rattle.seating.specs.Withdrawal.{Withdraws, SitsAt}
-use Rattle.seating.specs.Questions.{Finds}
+use Rattle.seating.specs.Questions.{Finds, Told}
 use Rattle.seating.proofs.Answering.{admits_some, withdraws_some}
 use Rattle.seating.proofs.Once.{admits_once}
 use Rattle.seating.proofs.WithdrawOnce.{withdraws_once}
 use Rattle.seating.proofs.Numbering.{is_seated_there, one_list, one_place}
-use Rattle.book.specs.Book.{Book, Event, admits, withdraws, finds, loads, lists, after, Rules, Right, AtMoment}
+use Rattle.book.specs.Book.{Book, Event, admits, withdraws, finds, after, Rules, Right, AtMoment}
 use Rattle.book.specs.Answers.{One, OneRightAnswer}
 use Rattle.book.proofs.Following.{written}
 
-module _ (mean : Meaning) (judged : JudgeLaws mean) (bef : Relation) (preferred : PreferenceLaws bef) (b : Book) (now : AtMoment b) where
-  to_right : (b' : Book) (e : Event) → Rules mean bef b e b' → Right mean bef b e
-  to_right b' e r = subst (λ (c : Book). Rules mean bef b e c) (written mean bef b b' now.seated_once e r) r
+module _ (meaning : Meaning) (judged : JudgeLaws meaning) (before : Relation) (preferred : PreferenceLaws before) (b : Book) (now : AtMoment b) where
+  to_right : (b' : Book) (e : Event) → Rules meaning before b e b' → Right meaning before b e
+  to_right b' e r = subst (λ (c : Book). Rules meaning before b e c) (written meaning before b b' now.seated_once e r) r
 
-  one_admission : (x : Task) (sheet : List ℕ) → One (Result (ℕ × Ticks) AdmitRefusal × List ℕ) (λ a. Right mean bef b (admits x sheet a.0 a.1))
+  one_admission : (x : Task) (sheet : List ℕ) → One (Result (ℕ × Ticks) AdmitRefusal × List ℕ) (λ a. Right meaning before b (admits x sheet a.0 a.1))
   one_admission x sheet =
-      let some = admits_some mean judged bef preferred b (λ q h. ((now.kept_well q h).limits, (now.kept_well q h).instants)) x sheet in
+      let some = admits_some meaning judged before preferred b (λ q h. ((now.kept_well q h).limits, (now.kept_well q h).instants)) x sheet in
       record {
         it = (some.0, some.1);
         is = to_right some.2 (admits x sheet some.0 some.1) some.3;
         only = λ a r.
-            let one = admits_once mean bef preferred b x sheet a.0 some.0 a.1 some.1 (after mean b (admits x sheet a.0 a.1)) some.2 r some.3 in
+            let one = admits_once meaning before preferred b x sheet a.0 some.0 a.1 some.1 (after meaning b (admits x sheet a.0 a.1)) some.2 r some.3 in
             ap (λ (z : Result (ℕ × Ticks) AdmitRefusal). (z, a.1)) one.0 ∙ ap (λ (z : List ℕ). (some.0, z)) one.1;
       }
 
-  one_withdrawal : (n : ℕ) → One (Result (ℕ × Units × Ticks) WithdrawRefusal) (λ a. Right mean bef b (withdraws n a))
+  one_withdrawal : (n : ℕ) → One (Result (ℕ × Units × Ticks) WithdrawRefusal) (λ a. Right meaning before b (withdraws n a))
   one_withdrawal n =
       let some = withdraws_some b n in
       record {
         it = some.0;
         is = to_right some.1 (withdraws n some.0) some.2;
-        only = λ a r. (withdraws_once b now.seated_once n a some.0 (after mean b (withdraws n a)) some.1 r some.2).0;
+        only = λ a r. (withdraws_once b now.seated_once n a some.0 (after meaning b (withdraws n a)) some.1 r some.2).0;
       }
 
   -- a task of the number sits somewhere, or none does
@@ -67,10 +67,10 @@ module _ (mean : Meaning) (judged : JudgeLaws mean) (bef : Relation) (preferred 
   none_found n none None f = refl
   none_found n none (Some (seat, q)) f = absurd (is_seated_there n b q f.at f.sits.there f.sits.within f.sits.number none)
 
-  one_finding : (n : ℕ) → One (Option (Seat × ℕ)) (λ a. Right mean bef b (finds n a))
+  one_finding : (n : ℕ) → One (Option (Seat × ℕ)) (λ a. Right meaning before b (finds n a))
   one_finding n = go (sits_or_not n)
     where
-      go : ((p : ℕ) × (at : ℕ) × SitsAt b n p at) ⊎ (seated n b ≡ false) → One (Option (Seat × ℕ)) (λ a. Right mean bef b (finds n a))
+      go : ((p : ℕ) × (at : ℕ) × SitsAt b n p at) ⊎ (seated n b ≡ false) → One (Option (Seat × ℕ)) (λ a. Right meaning before b (finds n a))
       go (inl s) = record {
         it = Some (get_or (get_or b s.0 []) s.1 no_seat, s.0);
         is = (record { at = s.1; sits = s.2; its_seat = refl }, refl);
@@ -81,41 +81,26 @@ module _ (mean : Meaning) (judged : JudgeLaws mean) (bef : Relation) (preferred 
   one_refusal : (e : QuestionRefusal) → e ≡ NoProcessor
   one_refusal NoProcessor = refl
 
-  one_load : (p : ℕ) → One (Result ℕ QuestionRefusal) (λ a. Right mean bef b (loads p a))
-  one_load p = go (cases_lt p (length b))
+  one_told : {A : Type 0} (p : ℕ) (v : A) → One (Result A QuestionRefusal) (λ a. Told b p v a × (b ≡ b))
+  one_told {A} p v = go (cases_lt p (length b))
     where
-      there : p < length b → (a : Result ℕ QuestionRefusal) → Right mean bef b (loads p a) → a ≡ Ok (load_of (tasks_of (get_or b p [])))
-      there lt (Ok l) r = ap (λ (k : ℕ). Ok k) r.0.1
-      there lt (Err e) r = absurd (omega (arith, lt, r.0.cause))
+      there : p < length b → (a : Result A QuestionRefusal) → Told b p v a → a ≡ Ok v
+      there lt (Ok w) r = ap (λ (k : A). Ok k) r.1
+      there lt (Err e) r = absurd (omega (arith, lt, r.cause))
 
-      away : length b ≤ p → (a : Result ℕ QuestionRefusal) → Right mean bef b (loads p a) → a ≡ Err NoProcessor
-      away ge (Ok l) r = absurd (omega (arith, ge, r.0.0))
+      away : length b ≤ p → (a : Result A QuestionRefusal) → Told b p v a → a ≡ Err NoProcessor
+      away ge (Ok w) r = absurd (omega (arith, ge, r.0))
       away ge (Err e) r = ap (λ (k : QuestionRefusal). Err k) (one_refusal e)
 
-      go : (p < length b) ⊎ (length b ≤ p) → One (Result ℕ QuestionRefusal) (λ a. Right mean bef b (loads p a))
-      go (inl lt) = record { it = Ok (load_of (tasks_of (get_or b p []))); is = ((lt, refl), refl); only = there lt }
-      go (inr ge) = record { it = Err NoProcessor; is = (record { cause = ge; refused = refl }, refl); only = away ge }
-
-  one_list_of_seats : (p : ℕ) → One (Result (List Seat) QuestionRefusal) (λ a. Right mean bef b (lists p a))
-  one_list_of_seats p = go (cases_lt p (length b))
-    where
-      there : p < length b → (a : Result (List Seat) QuestionRefusal) → Right mean bef b (lists p a) → a ≡ Ok (get_or b p [])
-      there lt (Ok ss) r = ap (λ (k : List Seat). Ok k) r.0.1
-      there lt (Err e) r = absurd (omega (arith, lt, r.0.cause))
-
-      away : length b ≤ p → (a : Result (List Seat) QuestionRefusal) → Right mean bef b (lists p a) → a ≡ Err NoProcessor
-      away ge (Ok ss) r = absurd (omega (arith, ge, r.0.0))
-      away ge (Err e) r = ap (λ (k : QuestionRefusal). Err k) (one_refusal e)
-
-      go : (p < length b) ⊎ (length b ≤ p) → One (Result (List Seat) QuestionRefusal) (λ a. Right mean bef b (lists p a))
-      go (inl lt) = record { it = Ok (get_or b p []); is = ((lt, refl), refl); only = there lt }
-      go (inr ge) = record { it = Err NoProcessor; is = (record { cause = ge; refused = refl }, refl); only = away ge }
+      go : (p < length b) ⊎ (length b ≤ p) → One (Result A QuestionRefusal) (λ a. Told b p v a × (b ≡ b))
+      go (inl lt) = record { it = Ok v; is = ((lt, refl), refl); only = λ a r. there lt a r.0 }
+      go (inr ge) = record { it = Err NoProcessor; is = (record { cause = ge; refused = refl }, refl); only = λ a r. away ge a r.0 }
 
 pub one_right_answer : OneRightAnswer
-one_right_answer mean judged bef preferred b now = record {
-  admission = one_admission mean judged bef preferred b now;
-  withdrawal = one_withdrawal mean judged bef preferred b now;
-  finding = one_finding mean judged bef preferred b now;
-  load = one_load mean judged bef preferred b now;
-  seats = one_list_of_seats mean judged bef preferred b now;
+one_right_answer meaning judged before preferred b now = record {
+  admission = one_admission meaning judged before preferred b now;
+  withdrawal = one_withdrawal meaning judged before preferred b now;
+  finding = one_finding meaning judged before preferred b now;
+  load = λ p. one_told meaning judged before preferred b now p (load_of (tasks_of (get_or b p [])));
+  seats = λ p. one_told meaning judged before preferred b now p (get_or b p []);
 }

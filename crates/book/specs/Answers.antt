@@ -17,14 +17,14 @@ pub record One (X : Type 0) (P : X → Type 0) : Type 0 where
   pub is : P it
   pub only : (x : X) → P x → x ≡ it
 
-module _ (mean : Meaning) (bef : Relation) (b : Book) where
+module _ (meaning : Meaning) (before : Relation) (b : Book) where
   pub record OneRight : Type 0 where
-    pub admission : (x : Task) (sheet : List ℕ) → One (Result (ℕ × Ticks) AdmitRefusal × List ℕ) (λ a. Right mean bef b (admits x sheet a.0 a.1))
-    pub withdrawal : (n : ℕ) → One (Result (ℕ × Units × Ticks) WithdrawRefusal) (λ a. Right mean bef b (withdraws n a))
-    pub finding : (n : ℕ) → One (Option (Seat × ℕ)) (λ a. Right mean bef b (finds n a))
-    pub load : (p : ℕ) → One (Result ℕ QuestionRefusal) (λ a. Right mean bef b (loads p a))
-    pub seats : (p : ℕ) → One (Result (List Seat) QuestionRefusal) (λ a. Right mean bef b (lists p a))
+    pub admission : (x : Task) (sheet : List ℕ) → One (Result (ℕ × Ticks) AdmitRefusal × List ℕ) (λ a. Right meaning before b (admits x sheet a.0 a.1))
+    pub withdrawal : (n : ℕ) → One (Result (ℕ × Units × Ticks) WithdrawRefusal) (λ a. Right meaning before b (withdraws n a))
+    pub finding : (n : ℕ) → One (Option (Seat × ℕ)) (λ a. Right meaning before b (finds n a))
+    pub load : (p : ℕ) → One (Result ℕ QuestionRefusal) (λ a. Right meaning before b (loads p a))
+    pub seats : (p : ℕ) → One (Result (List Seat) QuestionRefusal) (λ a. Right meaning before b (lists p a))
 
 -- for every lawful judge and preference, and every book that stands as at a moment of a rack
 abbrev pub OneRightAnswer : Type 0
-OneRightAnswer = (mean : Meaning) → JudgeLaws mean → (bef : Relation) → PreferenceLaws bef → (b : Book) → AtMoment b → OneRight mean bef b
+OneRightAnswer = (meaning : Meaning) → JudgeLaws meaning → (before : Relation) → PreferenceLaws before → (b : Book) → AtMoment b → OneRight meaning before b

@@ -1,7 +1,7 @@
 -- The book of a rack, and the claim. The book is written from the calls on a rack and its answers alone; no rack and no table is named here.
 -- Read from top to bottom. The rules of each call on lists of seats stand in the crate seating (Admission, Withdrawal, Questions, and their words in Seats and Refusals),
 -- what fits in tasks (Demand), the step machine in machine (Promises, Lawful, Machine), judges and preferences in their crates (Laws).
-use Rattle.std.specs.Prelude.{◌≡◌, ℕ, ◌<◌, ◌≤◌, true, cond, ◌↔◌, List, [], ◌∷◌, ◌++◌, length, take, drop, replicate, is_err, Some, None, Ok, Err, Option, Result, ◌==◌, slice_index_or, slice_set}
+use Rattle.std.specs.Prelude.{◌≡◌, ℕ, ◌<◌, ◌≤◌, true, if◌then◌else◌, ◌↔◌, List, [], ◌∷◌, ◌++◌, length, take, drop, replicate, is_err, Some, None, Ok, Err, Option, Result, ◌==◌, get_or, slice_set}
 use Rattle.std.specs.List.Sorted.{IsPermutation}
 use Rattle.tasks.specs.declared.units.Units.{Units}
 use Rattle.tasks.specs.declared.units.Ticks.{Ticks}
@@ -27,13 +27,13 @@ use Rattle.seating.specs.Questions.{Finds, Loads, Shows}
 abbrev pub Book : Type 0
 Book = Lists
 
--- At the making of a rack of m processors there are m lists, all empty.
-abbrev pub new_book : ℕ → Book
-new_book m = replicate m []
+-- At the making of a rack of so many processors there are as many lists, all empty.
+abbrev pub new_book : (processors : ℕ) → Book
+new_book processors = replicate processors []
 
 -- The list of processor p, and its tasks.
 abbrev pub seats_on : Book → ℕ → List Seat
-seats_on b p = slice_index_or b p []
+seats_on b p = get_or b p []
 
 abbrev pub tasks_on : Book → ℕ → List Task
 tasks_on b p = tasks_of (seats_on b p)
@@ -60,43 +60,43 @@ given None = record { 0 = 0 }
 
 -- Tasks that are judged: each, below the tasks `above` and those before it in the list, by the judge's meaning.
 abbrev pub judged : Meaning → List Task → List Task → List Seat
-judged mean above [] = []
-judged mean above (x ∷ xs) = record { task = x; instant = given (mean x above) } ∷ judged mean (above ++ x ∷ []) xs
+judged meaning above [] = []
+judged meaning above (x ∷ xs) = record { task = x; instant = given (meaning x above) } ∷ judged meaning (above ++ x ∷ []) xs
 
 -- A task joins a list in its place. It and those below it are judged; those above it stay as they are.
 abbrev pub with_newcomer : Meaning → Task → List Seat → List Seat
-with_newcomer mean x ss = let k = place_of x (tasks_of ss) in take k ss ++ judged mean (take k (tasks_of ss)) (x ∷ drop k (tasks_of ss))
+with_newcomer meaning x ss = let k = place_of x (tasks_of ss) in take k ss ++ judged meaning (take k (tasks_of ss)) (x ∷ drop k (tasks_of ss))
 
 -- The task of number n leaves a list; the others stay as they are.
 abbrev pub without : ℕ → List Seat → List Seat
 without n [] = []
-without n (s ∷ ss) = cond (s.task.number == n) ss (s ∷ without n ss)
+without n (s ∷ ss) = if s.task.number == n then ss else s ∷ without n ss
 
 -- The book after a call. A granted admission: the task asked for joins the list of the processor answered. A granted withdrawal: the task of that number leaves its list.
 -- A refused call, or a question: no change.
 abbrev pub after : Meaning → Book → Event → Book
-after mean b (admits x sheet (Ok a) sheet') = slice_set b a.0 (with_newcomer mean x (seats_on b a.0))
-after mean b (admits x sheet (Err e) sheet') = b
-after mean b (withdraws n (Ok a)) = slice_set b a.0 (without n (seats_on b a.0))
-after mean b (withdraws n (Err e)) = b
-after mean b (finds n a) = b
-after mean b (loads p a) = b
-after mean b (lists p a) = b
+after meaning b (admits x sheet (Ok a) sheet') = slice_set b a.0 (with_newcomer meaning x (seats_on b a.0))
+after meaning b (admits x sheet (Err e) sheet') = b
+after meaning b (withdraws n (Ok a)) = slice_set b a.0 (without n (seats_on b a.0))
+after meaning b (withdraws n (Err e)) = b
+after meaning b (finds n a) = b
+after meaning b (loads p a) = b
+after meaning b (lists p a) = b
 
 -- ==== 4. What each answer must be
 
 -- The rules of each call: the lists just before it, the call with its whole answer, the lists after it.
 -- They say for every sheet, and every entry of it, what stands there afterwards.
 abbrev pub Rules : Meaning → Relation → Lists → Event → Lists → Type 0
-Rules mean bef b (admits x sheet a sheet') b' = Admits mean bef b x sheet a sheet' b'
-Rules mean bef b (withdraws n a) b' = Withdraws b n a b'
-Rules mean bef b (finds n a) b' = Finds b n a × (b' ≡ b)
-Rules mean bef b (loads p a) b' = Loads b p a × (b' ≡ b)
-Rules mean bef b (lists p a) b' = Shows b p a × (b' ≡ b)
+Rules meaning before b (admits x sheet a sheet') b' = Admits meaning before b x sheet a sheet' b'
+Rules meaning before b (withdraws n a) b' = Withdraws b n a b'
+Rules meaning before b (finds n a) b' = Finds b n a × (b' ≡ b)
+Rules meaning before b (loads p a) b' = Loads b p a × (b' ≡ b)
+Rules meaning before b (lists p a) b' = Shows b p a × (b' ≡ b)
 
 -- An answer is right by the book if the rules allow it there, from the book just before the call to the book after it.
 abbrev pub Right : Meaning → Relation → Book → Event → Type 0
-Right mean bef b e = Rules mean bef b e (after mean b e)
+Right meaning before b e = Rules meaning before b e (after meaning b e)
 
 -- ==== 5. The three promises
 
@@ -145,26 +145,26 @@ TurnedAwayExactly b (lists p a) = Unit {0}
 
 -- THE PREFERRED TAKER: a granted admission answers a processor that would have taken its task just before, and the preference puts that one before every other that would have.
 abbrev pub PreferredTaker : Relation → Book → Event → Type 0
-PreferredTaker bef b (admits x sheet (Ok a) sheet') = Preferred bef b x a.0
-PreferredTaker bef b (admits x sheet (Err e) sheet') = Unit {0}
-PreferredTaker bef b (withdraws n a) = Unit {0}
-PreferredTaker bef b (finds n a) = Unit {0}
-PreferredTaker bef b (loads p a) = Unit {0}
-PreferredTaker bef b (lists p a) = Unit {0}
+PreferredTaker before b (admits x sheet (Ok a) sheet') = Preferred before b x a.0
+PreferredTaker before b (admits x sheet (Err e) sheet') = Unit {0}
+PreferredTaker before b (withdraws n a) = Unit {0}
+PreferredTaker before b (finds n a) = Unit {0}
+PreferredTaker before b (loads p a) = Unit {0}
+PreferredTaker before b (lists p a) = Unit {0}
 
 -- Of a call, by the book just before it:
-pub record OfCall (mean : Meaning) (bef : Relation) (b : Book) (e : Event) : Type 0 where
-  pub right : Right mean bef b e
+pub record OfCall (meaning : Meaning) (before : Relation) (b : Book) (e : Event) : Type 0 where
+  pub right : Right meaning before b e
   pub turned_away : TurnedAwayExactly b e
-  pub preferred : PreferredTaker bef b e
+  pub preferred : PreferredTaker before b e
 
 -- ==== 6. The claim
 
 -- From a moment with the book b on: at that moment, of each call that follows, and at the moment at its end.
 abbrev pub ClaimFrom : Meaning → Relation → Book → List Event → Type 0
-ClaimFrom mean bef b [] = AtMoment b
-ClaimFrom mean bef b (e ∷ es) = AtMoment b × OfCall mean bef b e × ClaimFrom mean bef (after mean b e) es
+ClaimFrom meaning before b [] = AtMoment b
+ClaimFrom meaning before b (e ∷ es) = AtMoment b × OfCall meaning before b e × ClaimFrom meaning before (after meaning b e) es
 
--- Of the calls on a rack of m processors, from its making on.
-abbrev pub MainClaim : Meaning → Relation → ℕ → List Event → Type 0
-MainClaim mean bef m es = ClaimFrom mean bef (new_book m) es
+-- Of the calls on a rack of so many processors, from its making on.
+abbrev pub MainClaim : Meaning → Relation → (processors : ℕ) → List Event → Type 0
+MainClaim meaning before processors es = ClaimFrom meaning before (new_book processors) es

@@ -4,8 +4,7 @@
 ghost use Rattle.book.specs.Answers.{OneRightAnswer};
 
 /// For each book, call and sheet there is exactly one answer, and one sheet afterwards, that is right.
-pub fn one_right_answer() -> u8
+#[tactic(auto, using(crate::proofs::Single::one_right_answer))]
+pub fn one_right_answer()
     ensures { OneRightAnswer }
-{
-    0
-}
+{}

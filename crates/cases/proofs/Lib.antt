@@ -1,3 +1,5 @@
 pub mod Full
+pub mod Few
 pub mod Placed
 pub mod Sampled
+pub mod Worked

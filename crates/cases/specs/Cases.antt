@@ -1,8 +1,9 @@
 -- Worked cases, and what each must give.
-use Rattle.std.specs.Prelude.{◌≡◌, ℕ, zero, suc, Bool, true, cond, List, [], ◌∷◌, ◌++◌, map, replicate, Some, None, Ok, Err, codes, Option, Result}
+use Rattle.std.specs.Prelude.{◌≡◌, ℕ, zero, suc, Bool, true, if◌then◌else◌, List, [], ◌∷◌, ◌++◌, map, replicate, Some, None, Ok, Err, codes, Option, Result}
 use Rattle.tasks.specs.declared.task.Task.{Task}
 use Rattle.tasks.specs.declared.units.Ticks.{Ticks}
 use Rattle.tasks.specs.declared.units.Units.{Units}
+use Rattle.tasks.specs.Tasks.{task_of}
 use Rattle.tasks.specs.Share.{share_answer}
 use Rattle.tasks.specs.Instants.{point}
 use Rattle.judges.specs.Meanings.{least_good_point, least_good_instant}
@@ -25,11 +26,11 @@ use Rattle.book.specs.Book.{Book, Event, admits, withdraws, new_book, after, Rig
 use Rattle.rackfile.specs.Records as records
 use Rattle.rackfile.specs.Format.{Stands}
 use Rattle.lines.specs.Texts.{line_text}
-use Rattle.playing.specs.Playing.{task_of, admit_line, withdraw_line}
+use Rattle.playing.specs.Playing.{admit_line, withdraw_line}
 
 -- work C and period T
 abbrev pub task : ℕ → ℕ → Task
-task c t = record { number = 1; work = record { 0 = c }; period = record { 0 = t } }
+task c t = task_of 1 c t
 
 abbrev pub at : ℕ → Option Ticks
 at t = Some (record { 0 = t })
@@ -64,8 +65,8 @@ Lined index (withdrawn number a line) = line_text (withdraw_line index number a)
 
 -- record by record: the answer is right by the book just before it, and the line is its own
 abbrev pub AllPlayed : Relation → Book → ℕ → List Played → Type 0
-AllPlayed bef b index [] = Unit {0}
-AllPlayed bef b index (p ∷ ps) = Right least_good_point bef b (event_of p) × Lined index p × AllPlayed bef (after least_good_point b (event_of p)) (suc index) ps
+AllPlayed before b index [] = Unit {0}
+AllPlayed before b index (p ∷ ps) = Right least_good_point before b (event_of p) × Lined index p × AllPlayed before (after least_good_point b (event_of p)) (suc index) ps
 
 pub data Case : Type 0 where
   -- a task below others: the points judge's instant and the step-up judge's
@@ -79,12 +80,12 @@ pub data Case : Type 0 where
   -- lists of seats, a newcomer and a preference: the processor that takes it
   placed : Lists → Task → Relation → (processor : ℕ) → Case
   -- a file's bytes, its policy and number of processors: what is played, with the points judge
-  played : List ℕ → Policy → (m : ℕ) → List Played → Case
+  played : List ℕ → Policy → (processors : ℕ) → List Played → Case
 
 -- those from 1 to n that pass a test
 abbrev pub those : (ℕ → Bool) → ℕ → List ℕ
 those test zero = []
-those test (suc n) = those test n ++ cond (test (suc n)) (suc n ∷ []) []
+those test (suc n) = those test n ++ (if test (suc n) then suc n ∷ [] else [])
 
 -- a case gives what it must
 abbrev pub Settled : Case → Type 0
@@ -92,8 +93,8 @@ Settled (judged x above points steps) = (least_good_point x above ≡ points) ×
 Settled (shared x share) = share_answer x ≡ share
 Settled (pointed x above points) = those (point x above) x.period.0 ≡ points
 Settled (rehearsed ts horizon rs o) = (lawful ts horizon rs ≡ true) × (outcome ts horizon rs ≡ o)
-Settled (placed b x bef p) = Preferred bef b x p
-Settled (played bytes policy m ps) = Stands bytes (record { policy = policy; m = m; records = map record_of ps }) × AllPlayed (policy_before policy) (new_book m) 0 ps
+Settled (placed b x before p) = Preferred before b x p
+Settled (played bytes policy processors ps) = Stands bytes (record { policy = policy; processors = processors; records = map record_of ps }) × AllPlayed (policy_before policy) (new_book processors) 0 ps
 
 -- the multiples of 100, 150 and 350 below 350
 abbrev pub multiples : List Release

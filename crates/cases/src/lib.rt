@@ -5,8 +5,7 @@ ghost use Rattle.std.specs.Prelude.{All};
 ghost use Rattle.cases.specs.Cases.{Settled, cases};
 
 /// Each worked case gives what it must.
-pub fn worked_cases_hold() -> u8
+#[tactic(auto, using(crate::proofs::Worked::all_settled))]
+pub fn worked_cases_hold()
     ensures { All Settled cases }
-{
-    0
-}
+{}

@@ -1,5 +1,4 @@
 pub mod Reading
-pub mod Writing
-pub mod Records
 pub mod Replying
-pub mod Rows
+pub mod Setups
+pub mod Records

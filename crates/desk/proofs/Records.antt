@@ -1,22 +1,21 @@
 -- One record more.
-use Rattle.std.proofs.Common.{◌≡◌, ℕ, ◌+◌, ◌-◌, List, ◌++◌, map, get_or, take, IfOk, Ok, Err, vec_items, Result, Vec, sym, ap, ◌∙◌, subst, add-one}
-use native.Mathlib.Nat.{sub-zero}
+use Rattle.std.proofs.Common.{◌≡◌, ℕ, ◌+◌, List, ◌++◌, map, get_or, take, IfOk, Ok, Err, vec_items, Result, Vec, sym, subst, add-one}
 use Rattle.std.specs.declared.alloc.Global.{Global}
 use Rattle.judges.specs.declared.points.Points.{Points}
 use Rattle.preferences.specs.declared.policy.Policy.{Policy}
 use Rattle.preferences.specs.Policies.{policy_before}
-use Rattle.rack.specs.declared.rack.Rack.{Rack}
+use Rattle.rack.specs.Table.{Table}
 use Rattle.rackfile.specs.Records.{Seen, withdraws, seen_as}
 use Rattle.rackfile.specs.declared.record.Record.{Record}
 use Rattle.playing.specs.declared.opening.Play.{Play}
 use Rattle.playing.specs.Playing.{Plays}
 use Rattle.playing.specs.Beginning.{Begins}
-use Rattle.desk.specs.Asking.{by_points}
+use Rattle.judges.specs.Meanings.{least_good_point}
 use Rattle.desk.specs.Plays.{PlayedTo, AllPlayed, PlayedAs}
 
 pub one_more
-    : (start : Rack Points Policy) (records : List Seen) (n : ℕ) (q : Rack Points Policy) (sheet₀ out₀ lines₀ : List ℕ) (long : ℕ) (one : Seen) (r : Rack Points Policy) (sheet out lines : List ℕ)
-    → PlayedTo start records n q sheet₀ out₀ lines₀ → Plays by_points policy_before q one n sheet₀ out₀ long r sheet out → get_or records n (withdraws 0) ≡ one → lines ≡ lines₀ ++ take (long - 0) out
+    : (start : Table Points Policy) (records : List Seen) (n : ℕ) (q : Table Points Policy) (sheet₀ out₀ lines₀ : List ℕ) (long : ℕ) (one : Seen) (r : Table Points Policy) (sheet out lines : List ℕ)
+    → PlayedTo start records n q sheet₀ out₀ lines₀ → Plays (λ _. least_good_point) policy_before q one n sheet₀ out₀ long r sheet out → get_or records n (withdraws 0) ≡ one → lines ≡ lines₀ ++ take long out
     → PlayedTo start records (n + 1) r sheet out lines
 one_more start records n q sheet₀ out₀ lines₀ long one r sheet out lines before plays e is =
     subst (λ k. PlayedTo start records k r sheet out lines) (sym (add-one n)) (
@@ -26,8 +25,8 @@ one_more start records n q sheet₀ out₀ lines₀ long one r sheet out lines b
       lines₀,
       long,
       before,
-      subst (λ x. Plays by_points policy_before q x n sheet₀ out₀ long r sheet out) (sym e) plays,
-      is ∙ ap (λ k. lines₀ ++ take k out) (sub-zero long),
+      subst (λ x. Plays (λ _. least_good_point) policy_before q x n sheet₀ out₀ long r sheet out) (sym e) plays,
+      is,
     )
 
 -- the lines of a file that was begun

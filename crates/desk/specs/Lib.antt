@@ -1,3 +1,5 @@
+pub mod Desk
+pub mod Unanswered
 pub mod Hex
 pub mod Names
 pub mod Files

@@ -1,20 +1,15 @@
 -- `find`, `load` and `seats`: questions about the rack of the desk.
-use Rattle.std.specs.Prelude.{◌≡◌, ℕ, List, [], ◌∷◌, ◌++◌, length, Some, None, Ok, Err, codes, decimal, Option, Result}
-use Rattle.judges.specs.Laws.{Meaning}
-use Rattle.judges.specs.declared.points.Points.{Points}
-use Rattle.judges.specs.declared.step_up.StepUp.{StepUp}
-use Rattle.preferences.specs.declared.policy.Policy.{Policy}
-use Rattle.preferences.specs.Laws.{Relation}
+use Rattle.std.specs.Prelude.{◌≡◌, ℕ, List, ◌++◌, length, Some, None, Ok, Err, codes, decimal, Option, Result}
+use Rattle.std.specs.List.{flat_map}
 use Rattle.preferences.specs.Policies.{policy_before}
 use Rattle.seating.specs.declared.seat.Seat.{Seat}
 use Rattle.seating.specs.declared.refusal.QuestionRefusal.{QuestionRefusal}
-use Rattle.seating.specs.Refusals.{asking, number_of}
+use Rattle.seating.specs.declared.refused.Refused.TheVariants.{Asking}
+use Rattle.seating.specs.Refusals.{number_of}
 use Rattle.book.specs.Book.{finds, loads, lists}
-use Rattle.rack.specs.declared.rack.Rack.{Rack}
 use Rattle.rack.specs.Steps.{Step}
-use Rattle.desk.specs.declared.desk.Desk.{Desk}
-use Rattle.desk.specs.declared.desk.Desk.TheVariants as desks
-use Rattle.desk.specs.Asking.{by_points, by_steps}
+use Rattle.judges.specs.Kinds.{meaning_of}
+use Rattle.desk.specs.Desk.{RackSeen, DeskSeen}
 
 -- `NUMBER C T INSTANT`
 abbrev pub seat_text : Seat → List ℕ
@@ -26,7 +21,7 @@ find_text None = codes "none"
 find_text (Some a) = codes "seat " ++ (seat_text a.0 ++ (codes " " ++ decimal a.1))
 
 abbrev pub refused_text : QuestionRefusal → List ℕ
-refused_text e = codes "R" ++ decimal (number_of (asking e))
+refused_text e = codes "R" ++ decimal (number_of (Asking e))
 
 -- `ok LOAD`
 abbrev pub load_text : Result ℕ QuestionRefusal → List ℕ
@@ -35,45 +30,42 @@ load_text (Err e) = refused_text e
 
 -- each seat behind a space
 abbrev pub row_text : List Seat → List ℕ
-row_text [] = []
-row_text (s ∷ ss) = codes " " ++ (seat_text s ++ row_text ss)
+row_text seats = flat_map (λ s. codes " " ++ seat_text s) seats
 
 -- `ok N` and then the seats
 abbrev pub seats_text : Result (List Seat) QuestionRefusal → List ℕ
 seats_text (Ok ss) = codes "ok " ++ (decimal (length ss) ++ row_text ss)
 seats_text (Err e) = refused_text e
 
-module _ {J P : Type 0} (mean : J → Meaning) (bef : P → Relation) where
-  -- each is that step of the rack, which stays as it is, and its answer in words
-  pub record Found (r : Rack J P) (number : ℕ) (text : List ℕ) : Type 0 where
-    pub answer : Option (Seat × ℕ)
-    pub step : Step mean bef r (finds number answer) r
-    pub says : text ≡ find_text answer
+-- each is that step of the rack, which stays as it is, and its answer in words
+pub record Found (r : RackSeen) (number : ℕ) (text : List ℕ) : Type 0 where
+  pub answer : Option (Seat × ℕ)
+  pub step : Step meaning_of policy_before r (finds number answer) r
+  pub says : text ≡ find_text answer
 
-  pub record Loaded (r : Rack J P) (p : ℕ) (text : List ℕ) : Type 0 where
-    pub answer : Result ℕ QuestionRefusal
-    pub step : Step mean bef r (loads p answer) r
-    pub says : text ≡ load_text answer
+pub record Loaded (r : RackSeen) (p : ℕ) (text : List ℕ) : Type 0 where
+  pub answer : Result ℕ QuestionRefusal
+  pub step : Step meaning_of policy_before r (loads p answer) r
+  pub says : text ≡ load_text answer
 
-  pub record Listed (r : Rack J P) (p : ℕ) (text : List ℕ) : Type 0 where
-    pub answer : Result (List Seat) QuestionRefusal
-    pub step : Step mean bef r (lists p answer) r
-    pub says : text ≡ seats_text answer
+pub record Listed (r : RackSeen) (p : ℕ) (text : List ℕ) : Type 0 where
+  pub answer : Result (List Seat) QuestionRefusal
+  pub step : Step meaning_of policy_before r (lists p answer) r
+  pub says : text ≡ seats_text answer
 
--- asked of the rack of the desk, with either judge; `no rack` where there is none
-abbrev pub OfRack : (Rack Points Policy → List ℕ → Type 0) → (Rack StepUp Policy → List ℕ → Type 0) → Desk → List ℕ → Type 0
-OfRack points steps desks.Empty text = text ≡ codes "no rack"
-OfRack points steps (desks.Points r) text = points r text
-OfRack points steps (desks.Steps r) text = steps r text
+-- asked of the rack of the desk; `no rack` where there is none
+abbrev pub OfRack : (RackSeen → List ℕ → Type 0) → DeskSeen → List ℕ → Type 0
+OfRack asks None text = text ≡ codes "no rack"
+OfRack asks (Some r) text = asks r text
 
-abbrev pub FindOf : Desk → ℕ → List ℕ → Type 0
-FindOf desk number = OfRack (λ r. Found by_points policy_before r number) (λ r. Found by_steps policy_before r number) desk
+abbrev pub FindOf : DeskSeen → ℕ → List ℕ → Type 0
+FindOf desk number = OfRack (λ r. Found r number) desk
 
-abbrev pub LoadOf : Desk → ℕ → List ℕ → Type 0
-LoadOf desk p = OfRack (λ r. Loaded by_points policy_before r p) (λ r. Loaded by_steps policy_before r p) desk
+abbrev pub LoadOf : DeskSeen → ℕ → List ℕ → Type 0
+LoadOf desk p = OfRack (λ r. Loaded r p) desk
 
-abbrev pub SeatsOf : Desk → ℕ → List ℕ → Type 0
-SeatsOf desk p = OfRack (λ r. Listed by_points policy_before r p) (λ r. Listed by_steps policy_before r p) desk
+abbrev pub SeatsOf : DeskSeen → ℕ → List ℕ → Type 0
+SeatsOf desk p = OfRack (λ r. Listed r p) desk
 
 -- what is asked, or none where it is no call; and the answer
 abbrev pub Answer : (ℕ → List ℕ → Type 0) → Option ℕ → List ℕ → Type 0

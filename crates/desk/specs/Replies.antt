@@ -2,7 +2,7 @@
 use Rattle.std.specs.Prelude.{◌≡◌, ℕ, List, ◌∷◌, ◌++◌, Some, None, codes, Option, ◌≢◌}
 use Rattle.rackfile.specs.Files.{reading}
 use Rattle.script.specs.Lines.{reply_text}
-use Rattle.desk.specs.declared.desk.Desk.{Desk}
+use Rattle.desk.specs.Desk.{DeskSeen}
 use Rattle.desk.specs.declared.words.Word.{Word}
 use Rattle.desk.specs.declared.words.Word.TheVariants.{Read, Play, Make, Admit, Withdraw, Find, Load, Seats}
 use Rattle.desk.specs.Names.{name_of}
@@ -18,7 +18,7 @@ read_text None = codes "?"
 read_text (Some input) = reading_text (reading input)
 
 -- a call: its word and what stands behind it, the desk before, the answer, and the desk after
-abbrev pub Told : Word → List ℕ → Desk → List ℕ → Desk → Type 0
+abbrev pub Told : Word → List ℕ → DeskSeen → List ℕ → DeskSeen → Type 0
 Told Read rest before text after = (text ≡ read_text (bytes_of rest)) × (after ≡ before)
 Told Play rest before text after = PlayTold (bytes_of rest) text × (after ≡ before)
 Told Make rest before text after = MakeTold before rest text after
@@ -29,21 +29,21 @@ Told Load rest before text after = Answer (LoadOf before) (one_number rest) text
 Told Seats rest before text after = Answer (SeatsOf before) (one_number rest) text × (after ≡ before)
 
 -- a line that begins with a word of the desk and a space is answered here, with ` -> ` and the answer behind it
-pub record Answered (before : Desk) (line : List ℕ) (word : Word) (rest : List ℕ) (back : List ℕ) (after : Desk) : Type 0 where
+pub record Answered (before : DeskSeen) (line : List ℕ) (word : Word) (rest : List ℕ) (back : List ℕ) (after : DeskSeen) : Type 0 where
   pub begins : line ≡ name_of word ++ (32 ∷ rest)
   pub text : List ℕ
   pub told : Told word rest before text after
   pub whole : back ≡ line ++ (codes " -> " ++ text)
 
 -- any other line is answered as a script's
-pub record Passed (before : Desk) (line : List ℕ) (back : List ℕ) (after : Desk) : Type 0 where
+pub record Passed (before : DeskSeen) (line : List ℕ) (back : List ℕ) (after : DeskSeen) : Type 0 where
   pub other : (word : Word) (rest : List ℕ) → line ≢ name_of word ++ (32 ∷ rest)
   pub whole : back ≡ reply_text line
   pub stays : after ≡ before
 
-abbrev pub RepliedTo : Option (Word × List ℕ) → Desk → List ℕ → List ℕ → Desk → Type 0
+abbrev pub RepliedTo : Option (Word × List ℕ) → DeskSeen → List ℕ → List ℕ → DeskSeen → Type 0
 RepliedTo (Some x) before line back after = Answered before line x.0 x.1 back after
 RepliedTo None before line back after = Passed before line back after
 
-abbrev pub Replied : Desk → List ℕ → List ℕ → Desk → Type 0
+abbrev pub Replied : DeskSeen → List ℕ → List ℕ → DeskSeen → Type 0
 Replied before line back after = (asks : Option (Word × List ℕ)) × RepliedTo asks before line back after

@@ -1,16 +1,17 @@
 -- The rack's answers in words.
-use Rattle.std.specs.Prelude.{ℕ, List, [], ◌∷◌, ◌++◌, Ok, Err, codes, decimal, Result}
+use Rattle.std.specs.Prelude.{ℕ, List, [], ◌++◌, Ok, Err, codes, decimal, Result}
+use Rattle.std.specs.List.{flat_map}
 use Rattle.tasks.specs.declared.units.Ticks.{Ticks}
 use Rattle.tasks.specs.declared.units.Units.{Units}
 use Rattle.seating.specs.declared.refusal.AdmitRefusal.{AdmitRefusal}
 use Rattle.seating.specs.declared.refusal.AdmitRefusal.TheVariants as admits
 use Rattle.seating.specs.declared.refusal.WithdrawRefusal.{WithdrawRefusal}
-use Rattle.seating.specs.Refusals.{admitting, withdrawing, number_of}
+use Rattle.seating.specs.declared.refused.Refused.TheVariants.{Admitting, Withdrawing}
+use Rattle.seating.specs.Refusals.{number_of}
 
 -- each entry behind a space
 abbrev pub entries_text : List ℕ → List ℕ
-entries_text [] = []
-entries_text (n ∷ ns) = codes " " ++ (decimal n ++ entries_text ns)
+entries_text entries = flat_map (λ n. codes " " ++ decimal n) entries
 
 -- the whole sheet where no processor would take the task, else nothing of it
 abbrev pub sheet_text : AdmitRefusal → List ℕ → List ℕ
@@ -23,7 +24,7 @@ sheet_text admits.AllFull sheet = []
 sheet_text admits.NoTaker sheet = entries_text sheet
 
 abbrev pub turned_text : AdmitRefusal → List ℕ → List ℕ
-turned_text e sheet = codes "R" ++ (decimal (number_of (admitting e)) ++ sheet_text e sheet)
+turned_text e sheet = codes "R" ++ (decimal (number_of (Admitting e)) ++ sheet_text e sheet)
 
 -- `ok P INSTANT`
 abbrev pub granted_text : ℕ → ℕ → List ℕ
@@ -39,4 +40,4 @@ left_text processor work period = codes "ok " ++ (decimal processor ++ (codes " 
 
 abbrev pub withdraw_text : Result (ℕ × Units × Ticks) WithdrawRefusal → List ℕ
 withdraw_text (Ok a) = left_text a.0 a.1.0 a.2.0
-withdraw_text (Err e) = codes "R" ++ decimal (number_of (withdrawing e))
+withdraw_text (Err e) = codes "R" ++ decimal (number_of (Withdrawing e))

@@ -1,11 +1,7 @@
-use judges::{Points, StepUp};
+// What stands on the desk.
+use judges::AnyJudge;
 use preferences::Policy;
 use rack::Rack;
 
-/// The rack on the desk, by its judge, or none.
-#[derive(Drop)]
-pub enum Desk {
-    Empty,
-    Points(Rack<Points, Policy>),
-    Steps(Rack<StepUp, Policy>),
-}
+/// The rack on the desk, or none.
+pub type Desk = Option<Rack<AnyJudge, Policy>>;

@@ -1,8 +1,9 @@
-// Bytes in hexadecimal.
-ghost use Rattle.std.specs.Prelude.{◌≡◌, ◌<◌, IfOk, vec_items, MatchOption};
-ghost use Rattle.std.specs.Option.{option_map};
+// Bytes in hexadecimal. The kit's `hex::decode` does not hand on the error of memory that it met, so this reads the digits itself.
+ghost use Rattle.std.specs.Prelude.{◌≡◌, ◌<◌, vec_items, MatchOption};
+ghost use Rattle.script.specs.NoCalls.{Reads};
 ghost use Rattle.desk.specs.Hex.{digit_of, pair_of, bytes_of};
 
+use script::NoCall;
 use std::alloc::{AllocError, Global};
 
 // What a digit is worth.
@@ -22,27 +23,23 @@ fn digit(b: u8) -> Option<u8>
 fn pair(high: u8, low: u8) -> Option<u8>
     ensures { result ≡ pair_of (digit_of high) (digit_of low) }
 {
-    match (digit(high), digit(low)) {
-        (Some(h), Some(l)) => Some(h * 16 + l),
-        _ => None,
-    }
+    Some(digit(high)? * 16 + digit(low)?)
 }
 
-/// The bytes that `text` writes, two digits each, or none where anything else stands there.
-pub fn bytes_from(heap: Global, text: &[u8]) -> Result<Option<Vec<u8>>, AllocError>
-    ensures { IfOk result (λ o. option_map vec_items o ≡ bytes_of text.now) }
+/// The bytes that `text` writes, two digits each; no call where anything else stands there.
+pub fn bytes_from(alloc: Global, text: &[u8]) -> Result<Vec<u8>, NoCall>
+    ensures { Reads vec_items (bytes_of text.now) result }
 {
-    let mut all = Vec::new(heap);
-    let mut i = 0;
-    while i + 1 < text.len() {
-        let Some(b) = pair(text[i], text[i + 1]) else {
-            return Ok(None);
-        };
-        all.push(b)?;
-        i += 2;
+    let mut all = Vec::new(alloc);
+    let mut left = text;
+    while let [high, low, rest @ ..] = left {
+        let b = pair(*high, *low).ok_or(NoCall::Unreadable)?;
+        all.push(b).map_err(AllocError::from)?;
+        left = rest;
     }
-    if i < text.len() {
-        return Ok(None);
+    if left.is_empty() {
+        Ok(all)
+    } else {
+        Err(NoCall::Unreadable)
     }
-    Ok(Some(all))
 }

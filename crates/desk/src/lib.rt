@@ -9,14 +9,17 @@ mod making;
 mod plays;
 mod questions;
 mod replies;
+mod seats;
+mod sheets;
 mod texts;
+mod unanswered;
 mod words;
 
 pub use asking::Admission;
 pub use desk::Desk;
 pub use files::read_answer;
 pub use hex::bytes_from;
-pub use making::{JudgeName, Setup};
+pub use making::Setup;
 pub use plays::play_told;
 pub use replies::reply;
 pub use words::{Word, asked};

@@ -1,141 +1,108 @@
 // `make M points|step F|B|W`
-ghost use Rattle.std.specs.Prelude.{◌≡◌, IfOk, string_bytes, MatchOption, ◌≢◌};
-ghost use Rattle.desk.specs.declared.desk.Desk.TheVariants as desks;
-ghost use Rattle.desk.specs.Asking.{by_points, by_steps};
-ghost use Rattle.desk.specs.Making.{setup_name, MakeRead, Puts, PutsFor, MakeTold, made_text, only_of, one_number};
+ghost use Rattle.std.specs.Prelude.{◌≡◌, ◌≢◌, Some, string_bytes, MatchResult};
+ghost use Rattle.script.specs.NoCalls.{Reads};
+ghost use Rattle.desk.specs.Making.{setup_name, ReadsMake, Puts, MakeTold, made_text, one_number};
+ghost use Rattle.desk.specs.Unanswered.{Says};
+ghost use Rattle.script.specs.declared.no_call.NoCall.TheVariants.{Unreadable};
 
 use crate::desk::Desk;
-use judges::{Points, StepUp};
+use crate::unanswered::Unanswered;
+use judges::AnyJudge;
 use preferences::Policy;
 use rack::Rack;
-use script::{numbers, split_word};
-use std::alloc::{AllocError, Global};
-
-/// A judge by name.
-#[derive(Clone, Copy)]
-pub enum JudgeName {
-    Points,
-    Step,
-}
+use script::{NoCall, numbers, split_word};
+use seating::MakeRefusal;
+use std::alloc::Global;
+use std::fmt;
+use std::str::FromStr;
 
 /// What a rack is made with.
-#[derive(Clone, Copy)]
+#[derive(Clone, Copy, Debug, PartialEq, Eq)]
 pub struct Setup {
-    pub judge: JudgeName,
+    pub judge: AnyJudge,
     pub policy: Policy,
 }
 
-// The judge and the policy that stand in `text`, or none.
-fn setup_named(text: &str) -> Option<Setup>
-    ensures { MatchOption result ((s : Setup) → text.now ≢ setup_name s.judge s.policy) (λ s. text.now ≡ setup_name s.judge s.policy) }
-{
-    let (judge, policy) = match text {
-        "points F" => (JudgeName::Points, Policy::First),
-        "points B" => (JudgeName::Points, Policy::Best),
-        "points W" => (JudgeName::Points, Policy::Worst),
-        "step F" => (JudgeName::Step, Policy::First),
-        "step B" => (JudgeName::Step, Policy::Best),
-        "step W" => (JudgeName::Step, Policy::Worst),
-        _ => return None,
-    };
-    Some(Setup { judge, policy })
+/// `points F` and so on.
+impl FromStr for Setup {
+    type Err = NoCall;
+
+    fn from_str(text: &str) -> Result<Setup, NoCall>
+        ensures { MatchResult result (λ s. text.now ≡ setup_name s.judge s.policy) (λ e. (e ≡ Unreadable) × ((s : Setup) → text.now ≢ setup_name s.judge s.policy)) }
+    {
+        let (judge, policy) = match text {
+            "points F" => (AnyJudge::Points, Policy::First),
+            "points B" => (AnyJudge::Points, Policy::Best),
+            "points W" => (AnyJudge::Points, Policy::Worst),
+            "step F" => (AnyJudge::StepUp, Policy::First),
+            "step B" => (AnyJudge::StepUp, Policy::Best),
+            "step W" => (AnyJudge::StepUp, Policy::Worst),
+            _ => return Err(NoCall::Unreadable),
+        };
+        Ok(Setup { judge, policy })
+    }
 }
 
-// A rack with the points judge onto the desk, or none; the number of the refusal.
-fn put_points(desk: &mut Desk, m: usize, policy: Policy) -> Option<u32>
-    ensures { Puts by_points desks.Points m policy result desk.new }
+// A rack onto the desk, or none where it is refused.
+fn put(desk: &mut Desk, processors: usize, setup: Setup) -> Result<(), MakeRefusal>
+    ensures { Puts processors setup result desk.new }
 {
-    match Rack::make(m, Points, policy) {
+    match Rack::make(processors, setup.judge, setup.policy) {
         Ok(rack) => {
-            *desk = Desk::Points(rack);
-            None
+            *desk = Some(rack);
+            Ok(())
         }
         Err(blank) => {
-            *desk = Desk::Empty;
-            Some(blank.refusal().number())
+            *desk = None;
+            Err(blank.refusal())
         }
     }
 }
 
-// The same with the step-up judge.
-fn put_steps(desk: &mut Desk, m: usize, policy: Policy) -> Option<u32>
-    ensures { Puts by_steps desks.Steps m policy result desk.new }
-{
-    match Rack::make(m, StepUp, policy) {
-        Ok(rack) => {
-            *desk = Desk::Steps(rack);
-            None
+/// The answer to `make`: `ok`, or the refusal.
+#[derive(Clone, Copy)]
+struct MakeText(Result<(), MakeRefusal>);
+
+impl fmt::Display for MakeText {
+    ghost output = { λ m. Some (made_text m.0) };
+
+    fn fmt<W: fmt::Write>(&self, f: &mut fmt::Formatter<W>) -> fmt::Result {
+        match self.0 {
+            Ok(()) => write!(f, "ok"),
+            Err(refusal) => {
+                let number = refusal.number();
+                write!(f, "R{number}")
+            }
         }
-        Err(blank) => {
-            *desk = Desk::Empty;
-            Some(blank.refusal().number())
-        }
     }
 }
 
-// A rack with the judge named.
-fn put(desk: &mut Desk, m: usize, setup: Setup) -> Option<u32>
-    ensures { PutsFor setup.judge m setup.policy result desk.new }
+// The one number that stands in `text`.
+pub(crate) fn one_number(alloc: Global, text: &str) -> Result<u32, NoCall>
+    ensures { Reads (λ n. n) (one_number text.now) result }
 {
-    match setup.judge {
-        JudgeName::Points => put_points(desk, m, setup.policy),
-        JudgeName::Step => put_steps(desk, m, setup.policy),
+    let all = numbers(alloc, text.as_bytes())?;
+    match all.as_slice() {
+        [number] => Ok(*number),
+        _ => Err(NoCall::Unreadable),
     }
 }
 
-// `ok`, or the refusal.
-fn made_text(heap: Global, refusal: Option<u32>) -> Result<String, AllocError>
-    ensures { IfOk result (λ s. string_bytes s ≡ made_text refusal) }
+// What `make` asks for.
+fn make_from(alloc: Global, rest: &str) -> Result<(u32, Setup), NoCall>
+    ensures { ReadsMake rest.now result }
 {
-    match refusal {
-        None => String::from_str(heap, "ok"),
-        Some(number) => format!(in heap; "R{number}"),
-    }
+    let (digits, tail) = split_word(rest).ok_or(NoCall::Unreadable)?;
+    let setup = Setup::from_str(tail)?;
+    let processors = one_number(alloc, digits)?;
+    Ok((processors, setup))
 }
 
-// The number of a list of one, or none.
-fn only(numbers: &[u32]) -> Option<u32>
-    ensures { result ≡ only_of numbers.now }
+// Makes the rack that `rest` asks for, and answers `ok` or the refusal.
+pub(crate) fn make(alloc: Global, desk: &mut Desk, rest: &str) -> Result<String, Unanswered>
+    ensures { Says string_bytes (λ text. MakeTold desk.old rest.now text desk.new) result }
 {
-    if numbers.len() != 1 {
-        return None;
-    }
-    Some(numbers[0])
-}
-
-// The one number that stands in `text`, or none.
-pub(crate) fn one_number(heap: Global, text: &str) -> Result<Option<u32>, AllocError>
-    ensures { IfOk result (λ o. o ≡ one_number text.now) }
-{
-    let Some(all) = numbers(heap, text.as_bytes())? else {
-        return Ok(None);
-    };
-    Ok(only(all.as_slice()))
-}
-
-// What `make` asks for, or none.
-fn make_from(heap: Global, rest: &str) -> Result<Option<(u32, Setup)>, AllocError>
-    ensures { IfOk result (MakeRead rest.now) }
-{
-    let Some((digits, tail)) = split_word(rest) else {
-        return Ok(None);
-    };
-    let Some(setup) = setup_named(tail) else {
-        return Ok(None);
-    };
-    let Some(m) = one_number(heap, digits)? else {
-        return Ok(None);
-    };
-    Ok(Some((m, setup)))
-}
-
-// Makes the rack that `rest` asks for, and answers `ok` or the refusal; `?` where it asks for none.
-pub(crate) fn make_told(heap: Global, desk: &mut Desk, rest: &str) -> Result<String, AllocError>
-    ensures { IfOk result (λ s. MakeTold desk.old rest.now (string_bytes s) desk.new) }
-{
-    let Some((m, setup)) = make_from(heap, rest)? else {
-        return String::from_str(heap, "?");
-    };
-    let refusal = put(desk, m as usize, setup);
-    made_text(heap, refusal)
+    let (processors, setup) = make_from(alloc, rest)?;
+    let answer = put(desk, processors as usize, setup);
+    Ok(MakeText(answer).to_string(alloc)?)
 }

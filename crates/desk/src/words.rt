@@ -1,11 +1,13 @@
 // The words that the desk's calls begin with.
-ghost use Rattle.std.specs.Prelude.{◌≡◌, ℕ, List, ◌∷◌, ◌++◌, MatchOption, ◌≢◌};
+ghost use Rattle.std.specs.Prelude.{◌≡◌, ℕ, List, ◌∷◌, ◌++◌, MatchOption, MatchResult, ◌≢◌};
 ghost use Rattle.desk.specs.Names.{name_of};
+ghost use Rattle.script.specs.declared.no_call.NoCall.TheVariants.{Unreadable};
 
-use script::split_word;
+use script::{NoCall, split_word};
+use std::str::FromStr;
 
 /// The word of a call.
-#[derive(Clone, Copy)]
+#[derive(Clone, Copy, Debug, PartialEq, Eq)]
 pub enum Word {
     Read,
     Play,
@@ -17,20 +19,24 @@ pub enum Word {
     Seats,
 }
 
-// The word that stands in `text`, or none.
-fn word_named(text: &str) -> Option<Word>
-    ensures { MatchOption result ((w : Word) → text.now ≢ name_of w) (λ w. text.now ≡ name_of w) }
-{
-    match text {
-        "read" => Some(Word::Read),
-        "play" => Some(Word::Play),
-        "make" => Some(Word::Make),
-        "admit" => Some(Word::Admit),
-        "withdraw" => Some(Word::Withdraw),
-        "find" => Some(Word::Find),
-        "load" => Some(Word::Load),
-        "seats" => Some(Word::Seats),
-        _ => None,
+/// The word that stands in the text; no call where there is none.
+impl FromStr for Word {
+    type Err = NoCall;
+
+    fn from_str(text: &str) -> Result<Word, NoCall>
+        ensures { MatchResult result (λ w. text.now ≡ name_of w) (λ e. (e ≡ Unreadable) × ((w : Word) → text.now ≢ name_of w)) }
+    {
+        match text {
+            "read" => Ok(Word::Read),
+            "play" => Ok(Word::Play),
+            "make" => Ok(Word::Make),
+            "admit" => Ok(Word::Admit),
+            "withdraw" => Ok(Word::Withdraw),
+            "find" => Ok(Word::Find),
+            "load" => Ok(Word::Load),
+            "seats" => Ok(Word::Seats),
+            _ => Err(NoCall::Unreadable),
+        }
     }
 }
 
@@ -38,11 +44,7 @@ fn word_named(text: &str) -> Option<Word>
 pub fn asked(line: &str) -> Option<(Word, &str)>
     ensures { MatchOption result ((w : Word) (rest : List ℕ) → line.now ≢ name_of w ++ (32 ∷ rest)) (λ x. line.now ≡ name_of x.0 ++ (32 ∷ x.1.now)) }
 {
-    let Some((first, rest)) = split_word(line) else {
-        return None;
-    };
-    let Some(word) = word_named(first) else {
-        return None;
-    };
+    let (first, rest) = split_word(line)?;
+    let word = Word::from_str(first).ok()?;
     Some((word, rest))
 }

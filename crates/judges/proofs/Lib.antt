@@ -1,2 +1,3 @@
 pub mod Multiples
 pub mod Weights
+pub mod Chosen

@@ -1,9 +1,11 @@
 -- The next scheduling point from an instant on.
-use Rattle.std.proofs.Common.{◌≡◌, ℕ, ◌+◌, ◌*◌, ◌/◌, ◌%◌, ◌<◌, ◌≤◌, min, true, false, eqb, ◌⊎◌, List, [], ◌∷◌, ◌++◌, length, get_or, take, sym, subst, inl, inr, mod-eq_of_lt, div-add-mod', arith}
+use Rattle.std.proofs.Common.{◌≡◌, ℕ, ◌+◌, ◌*◌, ◌/◌, ◌%◌, ◌<◌, ◌≤◌, min, true, false, ◌||◌, ◌==◌, ◌⊎◌, List, [], ◌∷◌, ◌++◌, length, get_or, take, sym, subst, inl, inr, mod-eq_of_lt, div-add-mod', arith}
 use native.Mathlib.Nat.{mul-mod_left, mod_self}
 use Rattle.std.proofs.lemmas.Nat.{mul-le}
 use Rattle.std.proofs.lemmas.List.{take_more}
-use Rattle.std.proofs.lemmas.Bool.{or_cases, or_left, or_right, eqb-true, eq-eqb, cases_lt, both_ways}
+use Rattle.std.proofs.lemmas.List.Folds.{list_any-append}
+use Rattle.std.proofs.lemmas.Bool.Decides.{nat_tests}
+use Rattle.std.proofs.lemmas.Bool.{cases_lt, cases_Bool, both_ways}
 use Rattle.tasks.specs.declared.task.Task.{Task}
 use Rattle.tasks.specs.Rounding.{up}
 use Rattle.tasks.specs.Demand.{no_task}
@@ -12,25 +14,17 @@ use Rattle.tasks.proofs.Roundings.{up_covers, up_least}
 use Rattle.tasks.proofs.Points.{PointAt, point_parts, point_from, not_point}
 
 -- a multiple of the period of one of the tasks, with one more task at the end
+multiple_end : (ys : List Task) (y : Task) (t : ℕ) → multiple_of_one (ys ++ y ∷ []) t ≡ (multiple_of_one ys t || (t % y.period.0 == 0 || false))
+multiple_end ys y t = list_any-append (λ z. t % z.period.0 == 0) ys (y ∷ [])
+
 multiple_push : (ys : List Task) (y : Task) (t : ℕ) → multiple_of_one (ys ++ y ∷ []) t ≡ true → (multiple_of_one ys t ≡ true) ⊎ (t % y.period.0 ≡ 0)
-multiple_push [] y t h = elim (or_cases (eqb (t % y.period.0) 0) false h) [ inl e ↦ inr (eqb-true (t % y.period.0) 0 e) | inr e ↦ inl e ]
-multiple_push (z ∷ ys) y t h = go (or_cases (eqb (t % z.period.0) 0) (multiple_of_one (ys ++ y ∷ []) t) h) (multiple_push ys y t)
-  where
-    go : (eqb (t % z.period.0) 0 ≡ true) ⊎ (multiple_of_one (ys ++ y ∷ []) t ≡ true) → (multiple_of_one (ys ++ y ∷ []) t ≡ true → (multiple_of_one ys t ≡ true) ⊎ (t % y.period.0 ≡ 0)) → (multiple_of_one (z ∷ ys) t ≡ true) ⊎ (t % y.period.0 ≡ 0)
-    go (inl e) ih = inl (or_left (eqb (t % z.period.0) 0) (multiple_of_one ys t) e)
-    go (inr e) ih = elim (ih e) [ inl m ↦ inl (or_right (eqb (t % z.period.0) 0) (multiple_of_one ys t) m) | inr m ↦ inr m ]
+multiple_push ys y t h = elim (cases_Bool (multiple_of_one ys t)) [ inl e ↦ inl e | inr e ↦ inr (grind (arith, nat_tests, multiple_end ys y t, e)) ]
 
 multiple_old : (ys : List Task) (y : Task) (t : ℕ) → multiple_of_one ys t ≡ true → multiple_of_one (ys ++ y ∷ []) t ≡ true
-multiple_old [] y t h = let z : ◌≡◌ {A = ℕ} 0 1 = cc in absurd (omega arith)
-multiple_old (z ∷ ys) y t h = go (or_cases (eqb (t % z.period.0) 0) (multiple_of_one ys t) h) (multiple_old ys y t)
-  where
-    go : (eqb (t % z.period.0) 0 ≡ true) ⊎ (multiple_of_one ys t ≡ true) → (multiple_of_one ys t ≡ true → multiple_of_one (ys ++ y ∷ []) t ≡ true) → multiple_of_one (z ∷ (ys ++ y ∷ [])) t ≡ true
-    go (inl e) ih = or_left (eqb (t % z.period.0) 0) (multiple_of_one (ys ++ y ∷ []) t) e
-    go (inr e) ih = or_right (eqb (t % z.period.0) 0) (multiple_of_one (ys ++ y ∷ []) t) (ih e)
+multiple_old ys y t h = grind (arith, nat_tests, multiple_end ys y t)
 
 multiple_new : (ys : List Task) (y : Task) (t : ℕ) → t % y.period.0 ≡ 0 → multiple_of_one (ys ++ y ∷ []) t ≡ true
-multiple_new [] y t h = or_left (eqb (t % y.period.0) 0) false (eq-eqb (t % y.period.0) 0 h)
-multiple_new (z ∷ ys) y t h = or_right (eqb (t % z.period.0) 0) (multiple_of_one (ys ++ y ∷ []) t) (multiple_new ys y t h)
+multiple_new ys y t h = grind (arith, nat_tests, multiple_end ys y t)
 
 -- no multiple of p lies from t up to below the least one at or after t
 none_between : (p t u : ℕ) → 1 ≤ p → t ≤ u → u < up t p * p → u % p ≡ 0 → ⊥
@@ -48,12 +42,9 @@ pub record NextPoint (x : Task) (above : List Task) (from next : ℕ) : Type 0 w
 -- of its own period the task has only T
 pub next_own : (x : Task) (from : ℕ) → 1 ≤ from → from ≤ x.period.0 → NextPoint x [] from x.period.0
 next_own x from a b = record {
-  is = point_from x [] x.period.0 (record { starts = omega arith; ends = omega arith; multiple = or_left (eqb (x.period.0 % x.period.0) 0) false (eq-eqb (x.period.0 % x.period.0) 0 (mod_self x.period.0)) });
+  is = point_from x [] x.period.0 (record { starts = omega arith; ends = omega arith; multiple = grind (arith, nat_tests, mod_self x.period.0) });
   not_before = b;
-  none = λ u lo hi. not_point x [] u (λ p. elim (or_cases (eqb (u % x.period.0) 0) false p.multiple) [
-    | inl e ↦ let z : u % x.period.0 ≡ u = mod-eq_of_lt hi in omega (arith, eqb-true (u % x.period.0) 0 e)
-    | inr e ↦ let z : ◌≡◌ {A = ℕ} 0 1 = cc in omega arith
-  ]);
+  none = λ u lo hi. not_point x [] u (λ p. grind (arith, nat_tests, p.multiple, p.starts, mod-eq_of_lt hi));
 }
 
 -- with one more task, the earlier of the old point and that task's first multiple

@@ -1,14 +1,14 @@
 -- The least instant that passes a test, as the meaning of a judge.
-use Rattle.std.specs.Prelude.{◌≡◌, ℕ, suc, ◌<◌, ◌≤◌, Bool, true, false, cond, ◌&&◌, leb, List, length, Some, None, nat_le}
+use Rattle.std.specs.Prelude.{◌≡◌, ℕ, suc, ◌≤◌, Bool, true, false, cond, leb, List, length, Some, None}
 use Rattle.std.proofs.Common.{sym, subst, ◌∙◌, inl, inr, arith}
 use Rattle.tasks.specs.Limits.{within_limits, all_within}
-use Rattle.std.proofs.lemmas.Bool.{cond-true, cond-false, cases_Bool, cases_lt, and_parts}
+use Rattle.std.proofs.lemmas.Bool.Decides.{nat_tests}
+use Rattle.std.proofs.lemmas.Bool.{cond-true, cond-false, cases_Bool}
 use Rattle.tasks.specs.declared.task.Task.{Task}
 use Rattle.tasks.specs.declared.units.Ticks.{Ticks}
 use Rattle.tasks.specs.Instants.{least}
-use Rattle.tasks.proofs.Leasts.{NoneBelow, LeastOf, Least_is, least_is, least_some, least_none}
+use Rattle.tasks.proofs.Leasts.{NoneBelow, LeastOf, Least_is, least_is}
 use Rattle.judges.specs.Laws.{Meaning, asked}
-use Rattle.judges.specs.Meanings.{GivesLeast}
 
 -- the parts of what may be asked
 pub record Asked (x : Task) (above : List Task) : Type 0 where
@@ -17,10 +17,7 @@ pub record Asked (x : Task) (above : List Task) : Type 0 where
   pub others : all_within above ≡ true
 
 pub asked_parts : (x : Task) (above : List Task) → asked x above ≡ true → Asked x above
-asked_parts x above h =
-    let a = and_parts (nat_le (length above) 31) (within_limits x && all_within above) h in
-    let b = and_parts (within_limits x) (all_within above) a.1 in
-    record { few = a.0; own = b.0; others = b.1 }
+asked_parts x above h = record { few = grind (arith, nat_tests); own = grind (arith, nat_tests); others = grind (arith, nat_tests) }
 
 -- the least instant up to the period that passes a test, where it may be asked
 abbrev pub choice : (Task → List Task → ℕ → Bool) → Meaning
@@ -32,12 +29,6 @@ module _ (test : Task → List Task → ℕ → Bool) (x : Task) (above : List T
 
   pub choice_elsewhere : asked x above ≡ false → choice test x above ≡ None
   choice_elsewhere h = cond-false (asked x above) (least (test x above) x.period.0) None h
-
-  pub choice_some : asked x above ≡ true → (t : ℕ) → LeastOf (test x above) x.period.0 t → Some (record { 0 = t }) ≡ choice test x above
-  choice_some h t l = sym (choice_asked h ∙ least_some (test x above) x.period.0 t l)
-
-  pub choice_none : asked x above ≡ true → NoneBelow (test x above) (suc x.period.0) → None ≡ choice test x above
-  choice_none h l = sym (choice_asked h ∙ least_none (test x above) x.period.0 l)
 
   -- what it gives is the least
   pub chosen : (t : Ticks) → choice test x above ≡ Some t → LeastOf (test x above) x.period.0 t.0
@@ -53,16 +44,3 @@ module _ (test : Task → List Task → ℕ → Bool) (x : Task) (above : List T
 -- a test that passes only from 1 to the period
 abbrev pub Inside : (Task → List Task → ℕ → Bool) → Type 0
 Inside test = (x : Task) (above : List Task) (t : ℕ) → test x above t ≡ true → (1 ≤ t) × (t ≤ x.period.0)
-
-pub gives_least : (test : Task → List Task → ℕ → Bool) → Inside test → GivesLeast (choice test) test
-gives_least test inside x above h t = (there, back)
-  where
-    outside : (u : ℕ) → u < 1 → test x above u ≡ false
-    outside u l = elim (cases_Bool (test x above u)) [ inl e ↦ absurd (omega (arith, (inside x above u e).0)) | inr e ↦ e ]
-
-    there : choice test x above ≡ Some t → (test x above t.0 ≡ true) × ((u : ℕ) → u < t.0 → test x above u ≡ false)
-    there e = let l = chosen test x above t e in (l.passes, λ u b. elim (cases_lt u 1) [ inl z ↦ outside u z | inr z ↦ l.first u z b ])
-
-    back : (test x above t.0 ≡ true) × ((u : ℕ) → u < t.0 → test x above u ≡ false) → choice test x above ≡ Some t
-    back p = let i = inside x above t.0 p.0 in
-        sym (choice_some test x above h t.0 (record { from = i.0; to = i.1; passes = p.0; first = λ u a b. p.1 u b }))

@@ -3,3 +3,4 @@ pub mod Meanings
 pub mod Weighing
 pub mod Meant
 pub mod Choosing
+pub mod Kinds

@@ -3,8 +3,8 @@ use Rattle.std.specs.Prelude.{◌≡◌, ℕ, ◌<◌, ◌≤◌, false, List}
 use Rattle.tasks.specs.declared.task.Task.{Task}
 use Rattle.tasks.specs.Units.{units_in, one_a_tick}
 use Rattle.tasks.specs.Demand.{demand, good}
-use Rattle.judges.specs.declared.weighing.Weighed.{Weighed}
-use Rattle.judges.specs.declared.weighing.Weighed.TheVariants.{Done, NotBefore, Never}
+use Rattle.judges.specs.declared.question.Weighed.{Weighed}
+use Rattle.judges.specs.declared.question.Weighed.TheVariants.{Done, NotBefore, Never}
 
 abbrev pub Weighs : Task → List Task → ℕ → Weighed → Type 0
 Weighs x above t Done = demand x above t ≤ units_in one_a_tick t

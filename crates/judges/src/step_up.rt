@@ -1,15 +1,14 @@
 // The step-up judge: from the sum of all the works up, the demand in the place of the instant.
-ghost use Rattle.std.specs.Prelude.{◌≡◌, true, nat_le};
-ghost use Rattle.judges.specs.Laws.{asked};
+ghost use Rattle.std.specs.Prelude.{◌≡◌, nat_le};
 ghost use Rattle.judges.specs.Meanings.{least_good_instant, StepsAreLeast};
 ghost use Rattle.judges.specs.Meant.{steps_lawful};
 
 use crate::judge::Judge;
-use crate::weighing::{Weighed, may_be_asked, weigh};
+use crate::question::{Question, Weighed};
 use tasks::{Task, Ticks};
 
 /// Starts at the sum of all the works and puts the demand there in its place, until it stands still or passes the period.
-#[derive(Clone, Copy)]
+#[derive(Clone, Copy, Debug, PartialEq, Eq)]
 pub struct StepUp;
 
 impl Judge for StepUp {
@@ -18,40 +17,36 @@ impl Judge for StepUp {
     ghost lawful = { λ s. steps_lawful };
 
     fn ask(&mut self, task: Task, above: &[Task]) -> Option<Ticks> {
-        if !may_be_asked(task, above) {
-            return None;
-        }
-        first_good_instant(task, above)
+        Question::new(task, above)?.first_good_instant()
     }
 }
 
 /// What the step-up judge gives is the least good instant.
-pub fn steps_are_least() -> u8
+pub fn steps_are_least()
     ensures { StepsAreLeast }
-{
-    0
-}
+{}
 
 // Whether an instant lies within the task's period.
 fn is_within(t: Ticks, task: Task) -> bool
     ensures { result ≡ nat_le t.0 task.period.0 }
 {
-    t.0 <= task.period.0
+    t <= task.period
 }
 
-// The step-up judge's answer to what it may be asked.
-fn first_good_instant(task: Task, above: &[Task]) -> Option<Ticks>
-    requires { asked task above.now ≡ true }
-    ensures { result ≡ least_good_instant task above.now }
-{
-    // At instant 1 every task above has been released once, so that the first step leads to the sum of all the works.
-    let mut t = Ticks(1);
-    while is_within(t, task) {
-        match weigh(task, above, t) {
-            Weighed::Done => return Some(t),
-            Weighed::NotBefore(later) => t = later,
-            Weighed::Never => return None,
+impl Question<'_> {
+    // The step-up judge's answer.
+    fn first_good_instant(&self) -> Option<Ticks>
+        ensures { result ≡ least_good_instant self.now.task self.now.above.now }
+    {
+        // At instant 1 every task above has been released once, so that the first step leads to the sum of all the works.
+        let mut t = Ticks(1);
+        while is_within(t, self.task) {
+            match self.weigh(t) {
+                Weighed::Done => return Some(t),
+                Weighed::NotBefore(later) => t = later,
+                Weighed::Never => return None,
+            }
         }
+        None
     }
-    None
 }

@@ -1,40 +1,16 @@
--- The lines of the player. Fields are parted by a space (32), and each line ends in 0A (10); numbers are decimal, without leading zeros.
-use Rattle.std.specs.Prelude.{ℕ, Bool, true, List, [], ◌∷◌, ◌++◌, length, decimal}
+-- The lines of the player. Fields are parted by a space, and each line ends in 0A; numbers are decimal, without leading zeros.
+use Rattle.std.specs.Prelude.{ℕ, Bool, true, List, ◌++◌, length, codes, decimal}
 use Rattle.rackfile.specs.Records.{length_allowed}
 use Rattle.lines.specs.declared.line.Line.{Line}
 use Rattle.lines.specs.declared.line.Line.TheVariants.{Admitted, NotAdmitted, Withdrawn, NotWithdrawn, Unreadable}
 
--- a record's index and tag, each with a space behind it
-abbrev pub index_text : ℕ → ℕ → List ℕ
-index_text index tag = decimal index ++ (32 ∷ (tag ∷ (32 ∷ [])))
-
 -- a space and a number
 abbrev pub field_text : ℕ → List ℕ
-field_text n = 32 ∷ decimal n
+field_text n = codes " " ++ decimal n
 
 -- a space, the letter R and a refusal's number
 abbrev pub refusal_text : ℕ → List ℕ
-refusal_text n = 32 ∷ (82 ∷ decimal n)
-
--- `index A label processor instant`
-abbrev pub admitted_text : ℕ → List ℕ → ℕ → ℕ → List ℕ
-admitted_text index label processor instant = index_text index 65 ++ (label ++ (field_text processor ++ (field_text instant ++ (10 ∷ []))))
-
--- `index A label Rn`
-abbrev pub not_admitted_text : ℕ → List ℕ → ℕ → List ℕ
-not_admitted_text index label refusal = index_text index 65 ++ (label ++ (refusal_text refusal ++ (10 ∷ [])))
-
--- `index W number processor`
-abbrev pub withdrawn_text : ℕ → ℕ → ℕ → List ℕ
-withdrawn_text index number processor = index_text index 87 ++ (decimal number ++ (field_text processor ++ (10 ∷ [])))
-
--- `index W number Rn`
-abbrev pub not_withdrawn_text : ℕ → ℕ → ℕ → List ℕ
-not_withdrawn_text index number refusal = index_text index 87 ++ (decimal number ++ (refusal_text refusal ++ (10 ∷ [])))
-
--- `F number place`
-abbrev pub unreadable_text : ℕ → ℕ → List ℕ
-unreadable_text number place = (70 ∷ []) ++ (field_text number ++ (field_text place ++ (10 ∷ [])))
+refusal_text n = codes " R" ++ decimal n
 
 -- a line, with the bytes of its label
 pub data Seen : Type 0 where
@@ -51,12 +27,24 @@ seen_as (Withdrawn index number processor) = withdrawn_line index number process
 seen_as (NotWithdrawn index number refusal) = not_withdrawn_line index number refusal
 seen_as (Unreadable number place) = unreadable_line number place
 
+-- `index A label`, `index W number` or `F`
+abbrev pub head_text : Seen → List ℕ
+head_text (admitted_line index label processor instant) = decimal index ++ (codes " A " ++ label)
+head_text (not_admitted_line index label refusal) = decimal index ++ (codes " A " ++ label)
+head_text (withdrawn_line index number processor) = decimal index ++ (codes " W " ++ decimal number)
+head_text (not_withdrawn_line index number refusal) = decimal index ++ (codes " W " ++ decimal number)
+head_text (unreadable_line number place) = codes "F"
+
+-- and behind it ` processor instant`, ` Rn`, ` processor`, ` Rn` or ` number place`
+abbrev pub tail_text : Seen → List ℕ
+tail_text (admitted_line index label processor instant) = field_text processor ++ field_text instant
+tail_text (not_admitted_line index label refusal) = refusal_text refusal
+tail_text (withdrawn_line index number processor) = field_text processor
+tail_text (not_withdrawn_line index number refusal) = refusal_text refusal
+tail_text (unreadable_line number place) = field_text number ++ field_text place
+
 abbrev pub line_text : Seen → List ℕ
-line_text (admitted_line index label processor instant) = admitted_text index label processor instant
-line_text (not_admitted_line index label refusal) = not_admitted_text index label refusal
-line_text (withdrawn_line index number processor) = withdrawn_text index number processor
-line_text (not_withdrawn_line index number refusal) = not_withdrawn_text index number refusal
-line_text (unreadable_line number place) = unreadable_text number place
+line_text line = head_text line ++ (tail_text line ++ codes "\n")
 
 -- a line can be written if its label, where it has one, is from 1 to 16 bytes long
 abbrev pub writable : Seen → Bool

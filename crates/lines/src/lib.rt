@@ -1,9 +1,7 @@
-// The lines that the player writes, and the fault that ends or marks one.
+// The lines that the player writes.
 #![tactic(auto)]
 
-mod fault;
 mod line;
-mod writing;
+mod text;
 
-pub use fault::{PlayerFault, Refused};
 pub use line::{Line, write_line};

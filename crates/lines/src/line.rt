@@ -1,13 +1,14 @@
 // One line of the player.
-ghost use Rattle.std.specs.Prelude.{◌≡◌, true, length, Option};
+ghost use Rattle.std.specs.Prelude.{◌≡◌, ◌+◌, ◌≤◌, ◌++◌, true, length, codes};
+ghost use Rattle.arrayvec.specs.ArrayVec.{array_vec_len};
 ghost use Rattle.rackfile.specs.Records.{length_allowed};
-ghost use Rattle.lines.specs.Texts.{admitted_text, not_admitted_text, withdrawn_text, not_withdrawn_text, unreadable_text, seen_as};
-ghost use Rattle.lines.specs.Writing.{Filled, Written};
+ghost use Rattle.lines.specs.Texts.{seen_as, head_text, tail_text, writable};
+ghost use Rattle.lines.specs.Writing.{Written};
 
-use crate::writing::{put, put_field, put_index, put_number, put_refusal, put_text};
+use crate::text::{Text, put, put_field, put_fields, put_number, put_refusal};
 
-/// What a line says.
-#[derive(Clone, Copy)]
+/// What a line says. All its numbers have 32 bits, so that the longest line has room in 64 bytes.
+#[derive(Clone, Copy, Debug, PartialEq, Eq)]
 pub enum Line<'a> {
     /// An admission was granted.
     Admitted {
@@ -42,58 +43,63 @@ pub enum Line<'a> {
 }
 
 // Whether a label may be written.
-fn may_be_written(label: &[u8]) -> bool
+fn is_label(label: &[u8]) -> bool
     ensures { result ≡ length_allowed (length label.now) }
 {
     1 <= label.len() && label.len() <= 16
 }
 
-fn admitted(out: &mut [u8; 64], index: u32, label: &[u8], processor: u32, instant: u32) -> usize
-    requires { length_allowed (length label.now) ≡ true }
-    ensures { Filled out.old out.new (admitted_text index label.now processor instant) result }
+// Whether a line can be written.
+fn is_writable(line: Line<'_>) -> bool
+    ensures { result ≡ writable (seen_as line.entry) }
 {
-    let at = put_index(out, index, b'A');
-    let at = put_text(out, at, label);
-    let at = put_field(out, at, processor);
-    let at = put_field(out, at, instant);
-    put(out, at, 10)
+    match line {
+        Line::Admitted { label, .. } | Line::NotAdmitted { label, .. } => is_label(label),
+        _ => true,
+    }
 }
 
-fn not_admitted(out: &mut [u8; 64], index: u32, label: &[u8], refusal: u32) -> usize
-    requires { length_allowed (length label.now) ≡ true }
-    ensures { Filled out.old out.new (not_admitted_text index label.now refusal) result }
+// What a line begins with.
+fn head(line: Line<'_>) -> Text
+    requires { writable (seen_as line) ≡ true }
+    ensures items { result.items ≡ head_text (seen_as line.entry) }
+    ensures bound { array_vec_len result ≤ 29 }
 {
-    let at = put_index(out, index, b'A');
-    let at = put_text(out, at, label);
-    let at = put_refusal(out, at, refusal);
-    put(out, at, 10)
+    let mut text = Text::new();
+    match line {
+        Line::Admitted { index, label, .. } | Line::NotAdmitted { index, label, .. } => {
+            put_number(&mut text, index);
+            put(&mut text, b" A ");
+            put(&mut text, label);
+        }
+        Line::Withdrawn { index, number, .. } | Line::NotWithdrawn { index, number, .. } => {
+            put_number(&mut text, index);
+            put(&mut text, b" W ");
+            put_number(&mut text, number);
+        }
+        Line::Unreadable { .. } => put(&mut text, b"F"),
+    }
+    text
 }
 
-fn withdrawn(out: &mut [u8; 64], index: u32, number: u32, processor: u32) -> usize
-    ensures { Filled out.old out.new (withdrawn_text index number processor) result }
+// What it ends with.
+fn put_tail(text: &mut Text, line: Line<'_>)
+    requires { array_vec_len text.old + 23 ≤ 64 }
+    ensures { text.new.items ≡ text.old.items ++ (tail_text (seen_as line.entry) ++ codes "\n") }
 {
-    let at = put_index(out, index, b'W');
-    let at = put_number(out, at, number);
-    let at = put_field(out, at, processor);
-    put(out, at, 10)
-}
-
-fn not_withdrawn(out: &mut [u8; 64], index: u32, number: u32, refusal: u32) -> usize
-    ensures { Filled out.old out.new (not_withdrawn_text index number refusal) result }
-{
-    let at = put_index(out, index, b'W');
-    let at = put_number(out, at, number);
-    let at = put_refusal(out, at, refusal);
-    put(out, at, 10)
-}
-
-fn unreadable(out: &mut [u8; 64], number: u32, place: u32) -> usize
-    ensures { Filled out.old out.new (unreadable_text number place) result }
-{
-    let at = put(out, 0, b'F');
-    let at = put_field(out, at, number);
-    let at = put_field(out, at, place);
-    put(out, at, 10)
+    match line {
+        Line::Admitted {
+            processor,
+            instant,
+            ..
+        } => put_fields(text, processor, instant),
+        Line::Withdrawn { processor, .. } => put_field(text, processor),
+        Line::NotAdmitted { refusal, .. } | Line::NotWithdrawn { refusal, .. } => {
+            put_refusal(text, refusal)
+        }
+        Line::Unreadable { number, place } => put_fields(text, number, place),
+    }
+    put(text, b"\n");
 }
 
 /// Writes a line at the front of the buffer and answers its length, its last byte 0A counted; the rest of the buffer stays.
@@ -101,38 +107,12 @@ fn unreadable(out: &mut [u8; 64], number: u32, place: u32) -> usize
 pub fn write_line(out: &mut [u8; 64], line: Line<'_>) -> usize
     ensures { Written out.old out.new (seen_as line.entry) result }
 {
-    match line {
-        Line::Admitted {
-            index,
-            label,
-            processor,
-            instant,
-        } => {
-            if !may_be_written(label) {
-                return 0;
-            }
-            admitted(out, index, label, processor, instant)
-        }
-        Line::NotAdmitted {
-            index,
-            label,
-            refusal,
-        } => {
-            if !may_be_written(label) {
-                return 0;
-            }
-            not_admitted(out, index, label, refusal)
-        }
-        Line::Withdrawn {
-            index,
-            number,
-            processor,
-        } => withdrawn(out, index, number, processor),
-        Line::NotWithdrawn {
-            index,
-            number,
-            refusal,
-        } => not_withdrawn(out, index, number, refusal),
-        Line::Unreadable { number, place } => unreadable(out, number, place),
+    if !is_writable(line) {
+        return 0;
     }
+    let mut text = head(line);
+    put_tail(&mut text, line);
+    let n = text.len();
+    out[..n].copy_from_slice(&text);
+    n
 }

@@ -1,16 +1,19 @@
 -- Releases that come one by one, and the cursor over them.
-use Rattle.std.proofs.Common.{◌≡◌, ℕ, zero, suc, ◌+◌, ◌^◌, ◌<◌, ◌≤◌, Bool, true, false, cond, ◌&&◌, ◌||◌, eqb, ltb, List, [], ◌∷◌, ◌++◌, length, get_or, take, drop, set, sym, refl, ap, ◌∙◌, subst, inl, inr, add-zero, zero-add, arith}
-use Rattle.std.proofs.lemmas.List.{at_drop_more, at_drop_all, take_more, take-append-drop, length-take-le, length-drop, length-set, get_or-take, get_or-drop, get_or-set_same, get_or-set_other, ext_get_or}
+use Rattle.std.proofs.Common.{◌≡◌, ℕ, zero, suc, ◌+◌, ◌-◌, ◌<◌, ◌≤◌, Bool, true, false, cond, ◌&&◌, ◌||◌, eqb, ltb, List, [], ◌∷◌, ◌++◌, length, get_or, Some, None, take, drop, take_while, set, sym, refl, ap, ◌∙◌, inl, inr, add-zero, zero-add, arith}
+use Rattle.std.proofs.lemmas.List.{take_more, take-append-drop, length-take-le, length-drop, length-set, get_or-take, get_or-drop, get_or-set_same, get_or-set_other, ext_get_or}
 use Rattle.std.proofs.lemmas.Bool.{and_parts, and_cases, and_left, and_right, or_right, ltb-true, ltb-false, eqb-true, eqb-false, eq-eqb, ne_eqb, cases_eq, cases_lt, cond-true}
 use Rattle.tasks.specs.declared.task.Task.{Task}
 use Rattle.tasks.specs.Demand.{no_task}
 use Rattle.machine.specs.declared.state.State.{State}
 use Rattle.machine.specs.declared.state.State.TheVariants.{Idle}
 use Rattle.machine.specs.declared.state.Release.{Release}
-use Rattle.machine.specs.Machine.{due, with_releases}
+use Rattle.machine.specs.Machine.{due, with_releases, first_missed, busy_tick, served, at_instant, missed, went}
 use Rattle.machine.specs.Events.{fresh}
 use Rattle.machine.specs.Cursor.{Cursor, Orderly, no_release}
-use Rattle.machine.specs.Moments.{deadlines_fit}
+use Rattle.machine.specs.Moments.{is_now}
+use Rattle.std.specs.List.{prefix_len}
+use Rattle.std.proofs.lemmas.List.Sums.{prefix_len_passes, prefix_len_stops, prefix_len-le-length}
+use Rattle.std.proofs.lemmas.List.Folds.{length-prefix_len}
 
 -- the places that a list releases, element by element
 
@@ -98,85 +101,69 @@ pub with_past : (rs : List Release) (r : Release) (t : ℕ) (ts : List Task) (ss
 with_past rs r t ts ss n =
     with_same (rs ++ r ∷ []) rs t 0 ts ss (λ k. due_push rs r k t false (and_right (eqb r.place k) (eqb r.instant.0 t) (ne_eqb r.instant.0 t n)) ∙ or_false (due rs k t))
 
--- the loop: what came before the cursor has come to the states, and what is left is not before now
-pub record Coming (ts : List Task) (rs : List Release) (instant : ℕ) (old : List State) (cursor : ℕ) (ss : List State) : Type 0 where
-  pub within : cursor ≤ length rs
-  pub gone : (k : ℕ) → k < cursor → (get_or rs k no_release).instant.0 < instant + 1
-  pub ahead : (k : ℕ) → cursor ≤ k → k < length rs → instant ≤ (get_or rs k no_release).instant.0
-  pub states : ss ≡ with_releases (take cursor rs) instant 0 ts old
+-- In a list whose instants never fall, the releases that are now are those from the cursor on up to the first that is not.
 
-module _ (ts : List Task) (rs : List Release) (t : ℕ) (old : List State) where
-  pub coming_none : (i : ℕ) → Cursor rs i t → Coming ts rs t old i old
-  coming_none i c =
+module _ (ts : List Task) (rs : List Release) (t i : ℕ) (o : Orderly ts rs) (c : Cursor rs i t) where
+  abbrev left : List Release
+  left = drop i rs
+
+  abbrev count : ℕ
+  count = prefix_len (is_now t) left
+
+  counted_now : (k : ℕ) → i ≤ k → k < i + count → (get_or rs k no_release).instant.0 ≡ t
+  counted_now k a b =
+      let q : i + (k - i) ≡ k = omega arith in
+      let g : get_or left (k - i) no_release ≡ get_or rs k no_release = get_or-drop i rs (k - i) no_release ∙ ap (λ j. get_or rs j no_release) q in
+      eqb-true (get_or rs k no_release).instant.0 t (sym (ap (is_now t) g) ∙ prefix_len_passes (is_now t) left (k - i) no_release (omega arith))
+
+  later : (k : ℕ) → i + count ≤ k → k < length rs → t < (get_or rs k no_release).instant.0
+  later k a b =
+      let first = (get_or rs (i + count) no_release).instant.0 in
+      let stops = prefix_len_stops (is_now t) left no_release (omega (arith, length-drop i rs)) in
+      let not_now = eqb-false first t (sym (ap (is_now t) (get_or-drop i rs count no_release)) ∙ stops) in
+      let ahead = c.ahead (i + count) (omega arith) (omega arith) in
+      let rise = o.rise (i + count) k a b in
+      elim (cases_lt t first) [ inl z ↦ omega arith | inr z ↦ absurd (not_now (omega arith)) ]
+
+  none_before : (p : ℕ) → due (take i rs) p t ≡ false
+  none_before p =
+      due_none (take i rs) p t (λ k l e.
+      let n : length (take i rs) ≡ i = length-take-le i rs c.within in
+      let g = ap (λ r. r.instant.0) (get_or-take i rs k no_release (omega arith)) in
+      let b = c.gone k (omega arith) in
+      omega (arith, g, e, b))
+
+  none_behind : (p : ℕ) → due (drop count left) p t ≡ false
+  none_behind p =
+      due_none (drop count left) p t (λ k l e.
+      let n = length-drop count left in
+      let m = length-drop i rs in
+      let g = ap (λ r. r.instant.0) (get_or-drop count left k no_release) in
+      let f = ap (λ r. r.instant.0) (get_or-drop i rs (count + k) no_release) in
+      let b = later (i + (count + k)) (omega arith) (omega arith) in
+      omega (arith, g, f, e, b))
+
+  due_now : (p : ℕ) → due (take_while (is_now t) left) p t ≡ due rs p t
+  due_now p =
+      sym (or_false (due (take count left) p t)) ∙ ap (λ b. due (take count left) p t || b) (sym (none_behind p)) ∙ sym (due_append (take count left) (drop count left) p t)
+      ∙ ap (λ l. due l p t) (take-append-drop count left) ∙ ap (λ b. b || due left p t) (sym (none_before p)) ∙ sym (due_append (take i rs) left p t) ∙ ap (λ l. due l p t) (take-append-drop i rs)
+
+  with_now : (ss : List State) → with_releases (take_while (is_now t) left) t 0 ts ss ≡ with_releases rs t 0 ts ss
+  with_now ss = with_same (take_while (is_now t) left) rs t 0 ts ss due_now
+
+  pub instant_now : (ss : List State) → at_instant ts (take_while (is_now t) left) t ss ≡ at_instant ts rs t ss
+  instant_now ss = ap (λ ready. elim (first_missed t 0 ss) [ Some place ↦ missed place | None ↦ went (busy_tick ready) (served ready) ]) (with_now ss)
+
+  pub cursor_on : Cursor rs (i + length (take_while (is_now t) left)) (t + 1)
+  cursor_on =
+      let n = length-prefix_len (is_now t) left in
+      let m = prefix_len-le-length (is_now t) left in
+      let d = length-drop i rs in
       record {
-        within = c.within;
-        gone = λ k l. omega (arith, c.gone k l);
-        ahead = c.ahead;
-        states =
-            sym (with_none (take i rs) t 0 ts old (λ p. due_none (take i rs) p t (λ k l e.
-            let n : length (take i rs) ≡ i = length-take-le i rs c.within in
-            let g : get_or (take i rs) k no_release ≡ get_or rs k no_release = get_or-take i rs k no_release (omega arith) in
-            let b = c.gone k (omega arith) in
-            let z = ap (λ r. r.instant.0) g in
-            omega (arith, z, e, b))));
+        within = omega (arith, n, m, d, c.within);
+        gone = λ k l. elim (cases_lt k i) [ inl z ↦ omega (arith, c.gone k z) | inr z ↦ omega (arith, counted_now k z (omega arith)) ];
+        ahead = λ k a b. omega (arith, later k (omega arith) b);
       }
-
-  pub coming_more : (i : ℕ) (ss : List State) → Coming ts rs t old i ss → i < length rs → length old ≡ length ts → (get_or rs i no_release).place < length ts → (get_or rs i no_release).instant.0 ≡ t
-      → Coming ts rs t old (i + 1) (set ss (get_or rs i no_release).place (fresh (get_or ts (get_or rs i no_release).place no_task) t))
-  coming_more i ss c lt e l now =
-      let r = get_or rs i no_release in
-      record {
-        within = omega arith;
-        gone = λ k b. elim (cases_lt k i) [ inl z ↦ c.gone k z | inr z ↦ let q : i ≡ k = omega arith in subst (λ j. (get_or rs j no_release).instant.0 < t + 1) q (omega arith) ];
-        ahead = λ k a b. c.ahead k (omega arith) b;
-        states =
-            ap (λ l. set l r.place (fresh (get_or ts r.place no_task) t)) c.states ∙ sym (with_push (take i rs) r t ts old e l now)
-            ∙ ap (λ l. with_releases l t 0 ts old) (sym (take_more rs i no_release lt));
-      }
-
-  -- all that is left comes later
-  pub coming_all : (i : ℕ) (ss : List State) → Coming ts rs t old i ss → ((k : ℕ) → i ≤ k → k < length rs → t < (get_or rs k no_release).instant.0)
-      → (ss ≡ with_releases rs t 0 ts old) × Cursor rs i (t + 1)
-  coming_all i ss c later = (
-    c.states ∙ with_same (take i rs) rs t 0 ts old (λ p.
-        let d : due (drop i rs) p t ≡ false =
-        due_none (drop i rs) p t (λ k l e.
-        let n = length-drop i rs in
-        let g = ap (λ r. r.instant.0) (get_or-drop i rs k no_release) in
-        let b = later (i + k) (omega arith) (omega arith) in
-        omega (arith, g, e, b))
-        in
-        sym (ap (λ l. due l p t) (sym (take-append-drop i rs)) ∙ due_append (take i rs) (drop i rs) p t ∙ ap (λ b. due (take i rs) p t || b) d ∙ or_false (due (take i rs) p t))),
-    record { within = c.within; gone = c.gone; ahead = λ k a b. omega (arith, later k a b) },
-  )
-
-  pub later_end : (i : ℕ) → length rs ≤ i → (k : ℕ) → i ≤ k → k < length rs → t < (get_or rs k no_release).instant.0
-  later_end i le k a b = absurd (omega arith)
-
-  pub later_stop : (i : ℕ) (ss : List State) → Orderly ts rs → Coming ts rs t old i ss → i < length rs → ((get_or rs i no_release).instant.0 ≡ t → ⊥)
-      → (k : ℕ) → i ≤ k → k < length rs → t < (get_or rs k no_release).instant.0
-  later_stop i ss o c lt n k a b =
-      let x = c.ahead i (omega arith) lt in
-      let y = o.rise i k a b in
-      elim (cases_lt t (get_or rs i no_release).instant.0) [ inl z ↦ omega arith | inr z ↦ absurd (n (omega arith)) ]
-
--- a deadline from now fits at each place
-pub fits_at : (ts : List Task) (t k : ℕ) → deadlines_fit ts t ≡ true → k < length ts → t + (get_or ts k no_task).period.0 < 2 ^ 32
-fits_at [] t k h l = absurd (omega arith)
-fits_at (x ∷ ts) t zero h l = ltb-true (t + x.period.0) (2 ^ 32) (and_parts (ltb (t + x.period.0) (2 ^ 32)) (deadlines_fit ts t) h).0
-fits_at (x ∷ ts) t (suc k) h l = fits_at ts t k (and_parts (ltb (t + x.period.0) (2 ^ 32)) (deadlines_fit ts t) h).1 (omega arith)
-
--- one turn of the loop over the tasks
-
-module _ (ts : List Task) (t i : ℕ) (inv : deadlines_fit (drop i ts) t ≡ deadlines_fit ts t) where
-  pub fit_stop : i < length ts → false ≡ ltb (t + (get_or ts i no_task).period.0) (2 ^ 32) → false ≡ deadlines_fit ts t
-  fit_stop l e = ap (λ b. b && deadlines_fit (drop (i + 1) ts) t) e ∙ sym (at_drop_more (λ x. deadlines_fit x t) ts i no_task l) ∙ inv
-
-  pub fit_more : i < length ts → true ≡ ltb (t + (get_or ts i no_task).period.0) (2 ^ 32) → deadlines_fit (drop (i + 1) ts) t ≡ deadlines_fit ts t
-  fit_more l e = ap (λ b. b && deadlines_fit (drop (i + 1) ts) t) e ∙ sym (at_drop_more (λ x. deadlines_fit x t) ts i no_task l) ∙ inv
-
-  pub fit_all : length ts ≤ i → true ≡ deadlines_fit ts t
-  fit_all l = sym (at_drop_all (λ x. deadlines_fit x t) ts i l) ∙ inv
 
 -- one turn of the loop over any release list: a release that is not now, or not of a task of the list, changes nothing
 

@@ -1,13 +1,13 @@
 -- Jobs of one task: from release to release, to their deadlines.
-use Rattle.std.proofs.Common.{◌≡◌, ℕ, zero, suc, ◌+◌, ◌-◌, ◌*◌, ◌<◌, ◌≤◌, Bool, true, false, cond, ◌&&◌, eqb, ltb, leb, ◌⊎◌, List, [], ◌∷◌, length, get_or, None, sym, refl, ap, ◌∙◌, subst, inl, inr, add-zero, add-suc, one-mul, arith}
-use Rattle.std.specs.List.{AllByRecursion}
+use Rattle.std.proofs.Common.{◌≡◌, ℕ, All, zero, suc, ◌+◌, ◌-◌, ◌*◌, ◌<◌, ◌≤◌, Bool, true, false, cond, ◌&&◌, eqb, ltb, leb, ◌⊎◌, List, [], ◌∷◌, length, get_or, None, sym, refl, ap, ◌∙◌, subst, inl, inr, add-zero, add-suc, one-mul, arith}
+use Rattle.std.proofs.lemmas.List.Elements.{All-head, All-tail}
 use Rattle.std.proofs.lemmas.Bool.{and_parts, or_cases, eqb-true, le-leb, lt-leb, ltb-true, cases_Bool, cases_lt, false≢true, cond-true, cond-false}
 use Rattle.tasks.specs.declared.task.Task.{Task}
 use Rattle.tasks.specs.declared.units.Ticks.{Ticks}
 use Rattle.tasks.specs.declared.units.Units.{Units}
 use Rattle.tasks.specs.Demand.{no_task}
-use Rattle.tasks.specs.Limits.{all_within, within_limits}
-use Rattle.tasks.proofs.Bounds.{Limits, limits}
+use Rattle.tasks.specs.Limits.{all_within}
+use Rattle.tasks.proofs.Bounds.{Limits, all_limits}
 use Rattle.machine.specs.declared.state.State.{State}
 use Rattle.machine.specs.declared.state.State.TheVariants.{Idle, Waiting}
 use Rattle.machine.specs.declared.state.Release.{Release}
@@ -16,14 +16,12 @@ use Rattle.machine.specs.Lawful.{lawful}
 use Rattle.machine.specs.Events.{fresh}
 use Rattle.machine.specs.Traces.{states_at}
 use Rattle.machine.specs.Laws.{ready_at, turn_of, ticks_given, job_after, JobFor, FirstMiss, WaitsUntilDone, DoneByDeadline, ReleasedWhenIdle}
-use Rattle.machine.proofs.Separated.{Follows, lawful_parts}
-use Rattle.machine.proofs.Trace.{idle_at, ready_is, past_idle, turn_cases, turn_idle, served_other, served_turn, tick_of, missed_some, none_before, miss_is_first}
+use Rattle.machine.proofs.Separated.{Follows, lawful_parts, replicated_at}
+use Rattle.machine.proofs.Trace.{ready_is, past_idle, turn_cases, turn_idle, served_other, served_turn, tick_of, missed_some, none_before, miss_is_first}
 
 -- the limits of the task at a place
 pub limits_at : (ts : List Task) (p : ℕ) → all_within ts ≡ true → p < length ts → Limits (get_or ts p no_task)
-limits_at [] p h l = absurd (omega arith)
-limits_at (x ∷ ts) zero h l = limits x (and_parts (within_limits x) (all_within ts) h).0
-limits_at (x ∷ ts) (suc p) h l = limits_at ts p (and_parts (within_limits x) (all_within ts) h).1 (omega arith)
+limits_at ts p h l = all_limits ts h p no_task l
 
 -- two releases of a task in a lawful list
 
@@ -33,21 +31,21 @@ pub record Found (P : Release → Type 0) (p t : ℕ) : Type 0 where
   pub place : it.place ≡ p
   pub instant : it.instant.0 ≡ t
 
-due_head : (r : Release) (p t : ℕ) → (eqb r.place p && eqb r.instant.0 t) ≡ true → (r.place ≡ p) × (r.instant.0 ≡ t)
+pub due_head : (r : Release) (p t : ℕ) → (eqb r.place p && eqb r.instant.0 t) ≡ true → (r.place ≡ p) × (r.instant.0 ≡ t)
 due_head r p t h = let w = and_parts (eqb r.place p) (eqb r.instant.0 t) h in (eqb-true r.place p w.0, eqb-true r.instant.0 t w.1)
 
-pub due_find : (P : Release → Type 0) (rs : List Release) (p t : ℕ) → AllByRecursion P rs → due rs p t ≡ true → Found P p t
+pub due_find : (P : Release → Type 0) (rs : List Release) (p t : ℕ) → All P rs → due rs p t ≡ true → Found P p t
 due_find P [] p t a h = absurd (false≢true h)
 due_find P (r ∷ rs) p t a h = elim (or_cases (eqb r.place p && eqb r.instant.0 t) (due rs p t) h) [
-  | inl e ↦ let w = due_head r p t e in record { it = r; holds = a.0; place = w.0; instant = w.1 }
-  | inr e ↦ due_find P rs p t a.1 e
+  | inl e ↦ let w = due_head r p t e in record { it = r; holds = All-head P r rs a; place = w.0; instant = w.1 }
+  | inr e ↦ due_find P rs p t (All-tail P r rs a) e
 ]
 
 pub due_apart : (ts : List Task) (h : ℕ) (rs : List Release) (p s t : ℕ) → lawful ts h rs ≡ true → due rs p s ≡ true → due rs p t ≡ true → s < t → s + (get_or ts p no_task).period.0 ≤ t
 due_apart ts h [] p s t o a b l = absurd (false≢true a)
 due_apart ts h (r ∷ rs) p s t o a b l = go (or_cases (eqb r.place p && eqb r.instant.0 s) (due rs p s) a) (or_cases (eqb r.place p && eqb r.instant.0 t) (due rs p t) b) (lawful_parts ts h r rs o).1 (due_apart ts h rs p s t (lawful_parts ts h r rs o).2)
   where
-    go : ((eqb r.place p && eqb r.instant.0 s) ≡ true) ⊎ (due rs p s ≡ true) → ((eqb r.place p && eqb r.instant.0 t) ≡ true) ⊎ (due rs p t ≡ true) → AllByRecursion (Follows ts r) rs
+    go : ((eqb r.place p && eqb r.instant.0 s) ≡ true) ⊎ (due rs p s ≡ true) → ((eqb r.place p && eqb r.instant.0 t) ≡ true) ⊎ (due rs p t ≡ true) → All (Follows ts r) rs
         → (due rs p s ≡ true → due rs p t ≡ true → s < t → s + (get_or ts p no_task).period.0 ≤ t) → s + (get_or ts p no_task).period.0 ≤ t
     go (inl x) (inl y) f ih = let u = due_head r p s x in let v = due_head r p t y in absurd (omega arith)
     go (inl x) (inr y) f ih =
@@ -151,7 +149,7 @@ job_at ts rs w p r (suc k) l j = next_from ts rs w p j.place r k (ready_after ts
 
 -- until its first release a task is idle
 pub idle_before : (ts : List Task) (rs : List Release) (p : ℕ) → p < length ts → (n : ℕ) → ((m : ℕ) → m < n → due rs p m ≡ false) → get_or (states_at ts rs n) p Idle ≡ Idle
-idle_before ts rs p l zero h = idle_at (length ts) p
+idle_before ts rs p l zero h = replicated_at (length ts) p Idle
 idle_before ts rs p l (suc n) h =
     let i = ready_is ts rs n p l ∙ cond-false (due rs p n) (fresh (get_or ts p no_task) n) (get_or (states_at ts rs n) p Idle) (h n (omega arith)) ∙ idle_before ts rs p l n (λ m b. h m (omega arith)) in
     served_other p (ready_at ts rs n) (turn_idle p (ready_at ts rs n) i) ∙ i
@@ -192,7 +190,7 @@ served_back p ss l d e = elim (turn_cases p ss) [
 ]
 
 pub since : (ts : List Task) (rs : List Release) (p : ℕ) → p < length ts → (n : ℕ) (l : Units) (d : Ticks) → get_or (states_at ts rs n) p Idle ≡ Waiting l d → Since ts rs p n d
-since ts rs p lt zero l d e = let i = idle_at (length ts) p in let z : ◌≡◌ {A = ℕ} 0 1 = cc in absurd (omega arith)
+since ts rs p lt zero l d e = let i = replicated_at (length ts) p Idle in let z : ◌≡◌ {A = ℕ} 0 1 = cc in absurd (omega arith)
 since ts rs p lt (suc n) l d e =
     let b = served_back p (ready_at ts rs n) l d e in
     go (due rs p n) refl b.0 (sym (ready_is ts rs n p lt) ∙ b.1) (since ts rs p lt n)

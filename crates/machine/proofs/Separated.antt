@@ -1,18 +1,19 @@
 -- Lawfulness in one pass is lawfulness by pairs.
-use Rattle.std.proofs.Common.{◌≡◌, ℕ, zero, suc, ◌+◌, ◌^◌, ◌<◌, ◌≤◌, Bool, true, false, not, ◌&&◌, ◌||◌, eqb, ltb, leb, List, [], ◌∷◌, length, get_or, drop, set, replicate, sym, refl, ap, ◌∙◌, inl, inr, arith}
-use Rattle.std.specs.List.{AllByRecursion}
+use Rattle.std.proofs.Common.{◌≡◌, ℕ, All, zero, suc, ◌+◌, ◌^◌, ◌<◌, ◌≤◌, Bool, true, false, not, ◌&&◌, ◌||◌, eqb, ltb, leb, List, [], ◌∷◌, length, get_or, drop, set, replicate, sym, refl, ap, ◌∙◌, inl, inr, arith}
+use Rattle.std.proofs.lemmas.List.Elements.{All-nil, All-cons, All-head, All-tail, All-weaker}
+use Rattle.std.proofs.lemmas.List.Sums.{AllPass-from_list_all, list_all-from_AllPass}
 use Rattle.std.proofs.lemmas.List.{get_or-set_same, get_or-set_other, length-set, at_drop_more, at_drop_all}
 use Rattle.std.proofs.lemmas.Bool.{and_parts, and_from, or_cases, or_left, or_right, leb-true, le-leb, ltb-true, lt-ltb, eq-eqb, ne_eqb, cases_eq, not_from_false, not-true, both_ways}
 use Rattle.tasks.specs.declared.task.Task.{Task}
 use Rattle.tasks.specs.declared.units.Ticks.{Ticks}
 use Rattle.tasks.specs.Demand.{no_task}
-use Rattle.tasks.specs.Limits.{all_within, within_limits}
-use Rattle.tasks.proofs.Bounds.{limits}
+use Rattle.tasks.specs.Limits.{all_within}
+use Rattle.tasks.proofs.Bounds.{all_limits}
 use Rattle.machine.specs.declared.state.Release.{Release}
 use Rattle.machine.specs.Lawful.{inside, may_follow, all_may_follow, lawful}
 use Rattle.machine.specs.Separation.{no_ticks, may_come, lawful_after}
 use Rattle.machine.specs.Cursor.{Orderly, no_release}
-use Rattle.machine.specs.Moments.{deadlines_fit}
+use Rattle.machine.specs.Moments.{deadline_fits, deadlines_fit}
 
 pub same_truth : (x y : Bool) → (x ≡ true → y ≡ true) → (y ≡ true → x ≡ true) → x ≡ y
 same_truth true y f g = sym (f refl)
@@ -47,9 +48,8 @@ follows ts r q h =
       ];
     }
 
-pub all_follow : (ts : List Task) (r : Release) (rs : List Release) → all_may_follow ts r rs ≡ true → AllByRecursion (Follows ts r) rs
-all_follow ts r [] h = tt
-all_follow ts r (q ∷ rs) h = let w = and_parts (may_follow ts r q) (all_may_follow ts r rs) h in (follows ts r q w.0, all_follow ts r rs w.1)
+pub all_follow : (ts : List Task) (r : Release) (rs : List Release) → all_may_follow ts r rs ≡ true → All (Follows ts r) rs
+all_follow ts r rs h = All-weaker (λ q. may_follow ts r q ≡ true) (Follows ts r) (follows ts r) rs (AllPass-from_list_all (may_follow ts r) rs h)
 
 may_from : (ts : List Task) (r q : Release) → r.instant.0 ≤ q.instant.0 → (not (eqb r.place q.place) || leb (r.instant.0 + (get_or ts r.place no_task).period.0) q.instant.0) ≡ true → may_follow ts r q ≡ true
 may_from ts r q a b = and_from (leb r.instant.0 q.instant.0) (not (eqb r.place q.place) || leb (r.instant.0 + (get_or ts r.place no_task).period.0) q.instant.0) (le-leb r.instant.0 q.instant.0 a) b
@@ -91,22 +91,17 @@ module _ (ts : List Task) (last : ℕ) (free : List Ticks) (r : Release) (lt : r
             fine_from r.instant.0 (set free r.place (next_free ts r)) q u.later (omega (arith, g, w.1))
       ]
 
-  split : (rs : List Release) → AllByRecursion (Fine r.instant.0 (set free r.place (next_free ts r))) rs → (all_may_follow ts r rs ≡ true) × AllByRecursion (Fine last free) rs
-  split [] a = (refl, tt)
-  split (q ∷ rs) a =
-      let x = split_one q a.0 in
-      let y = split rs a.1 in
-      (and_from (may_follow ts r q) (all_may_follow ts r rs) x.0 y.0, (x.1, y.1))
+  split : (rs : List Release) → All (Fine r.instant.0 (set free r.place (next_free ts r))) rs → (all_may_follow ts r rs ≡ true) × All (Fine last free) rs
+  split rs a = (list_all-from_AllPass (may_follow ts r) rs (λ k d lt. (split_one (get_or rs k d) (a k d lt)).0), λ k d lt. (split_one (get_or rs k d) (a k d lt)).1)
 
-  join : (rs : List Release) → all_may_follow ts r rs ≡ true → AllByRecursion (Fine last free) rs → AllByRecursion (Fine r.instant.0 (set free r.place (next_free ts r))) rs
-  join [] m a = tt
-  join (q ∷ rs) m a = let w = and_parts (may_follow ts r q) (all_may_follow ts r rs) m in (join_one q w.0 a.0, join rs w.1 a.1)
+  join : (rs : List Release) → all_may_follow ts r rs ≡ true → All (Fine last free) rs → All (Fine r.instant.0 (set free r.place (next_free ts r))) rs
+  join rs m a k d lt = join_one (get_or rs k d) (AllPass-from_list_all (may_follow ts r) rs m k d lt) (a k d lt)
 
 place_of : (ts : List Task) (h : ℕ) (r : Release) → inside ts h r ≡ true → r.place < length ts
 place_of ts h r e = ltb-true r.place (length ts) (and_parts (ltb r.place (length ts)) (ltb r.instant.0 h) e).0
 
-to_pairs : (ts : List Task) (h last : ℕ) (free : List Ticks) (rs : List Release) → length ts ≤ length free → lawful_after ts h last free rs ≡ true → (lawful ts h rs ≡ true) × AllByRecursion (Fine last free) rs
-to_pairs ts h last free [] n e = (refl, tt)
+to_pairs : (ts : List Task) (h last : ℕ) (free : List Ticks) (rs : List Release) → length ts ≤ length free → lawful_after ts h last free rs ≡ true → (lawful ts h rs ≡ true) × All (Fine last free) rs
+to_pairs ts h last free [] n e = (refl, All-nil (Fine last free))
 to_pairs ts h last free (r ∷ rs) n e =
     let free' = set free r.place (next_free ts r) in
     let tail = lawful_after ts h r.instant.0 free' rs in
@@ -115,9 +110,9 @@ to_pairs ts h last free (r ∷ rs) n e =
     let v = and_parts may tail w.1 in
     let ih = to_pairs ts h r.instant.0 free' rs (omega (arith, length-set free r.place (next_free ts r))) v.1 in
     let s = split ts last free r (omega (arith, place_of ts h r w.0)) v.0 rs ih.1 in
-    (and_from (inside ts h r) (all_may_follow ts r rs && lawful ts h rs) w.0 (and_from (all_may_follow ts r rs) (lawful ts h rs) s.0 ih.0), (v.0, s.1))
+    (and_from (inside ts h r) (all_may_follow ts r rs && lawful ts h rs) w.0 (and_from (all_may_follow ts r rs) (lawful ts h rs) s.0 ih.0), All-cons (Fine last free) r rs v.0 s.1)
 
-from_pairs : (ts : List Task) (h last : ℕ) (free : List Ticks) (rs : List Release) → length ts ≤ length free → lawful ts h rs ≡ true → AllByRecursion (Fine last free) rs → lawful_after ts h last free rs ≡ true
+from_pairs : (ts : List Task) (h last : ℕ) (free : List Ticks) (rs : List Release) → length ts ≤ length free → lawful ts h rs ≡ true → All (Fine last free) rs → lawful_after ts h last free rs ≡ true
 from_pairs ts h last free [] n e a = refl
 from_pairs ts h last free (r ∷ rs) n e a =
     let free' = set free r.place (next_free ts r) in
@@ -125,18 +120,19 @@ from_pairs ts h last free (r ∷ rs) n e a =
     let may = may_come last (get_or free r.place no_ticks).0 r in
     let w = and_parts (inside ts h r) (all_may_follow ts r rs && lawful ts h rs) e in
     let v = and_parts (all_may_follow ts r rs) (lawful ts h rs) w.1 in
-    let j = join ts last free r (omega (arith, place_of ts h r w.0)) a.0 rs v.0 a.1 in
+    let now = All-head (Fine last free) r rs a in
+    let j = join ts last free r (omega (arith, place_of ts h r w.0)) now rs v.0 (All-tail (Fine last free) r rs a) in
     let ih = from_pairs ts h r.instant.0 free' rs (omega (arith, length-set free r.place (next_free ts r))) v.1 j in
-    and_from (inside ts h r) (may && tail) w.0 (and_from may tail a.0 ih)
+    and_from (inside ts h r) (may && tail) w.0 (and_from may tail now ih)
 
-zero_at : (n k : ℕ) → get_or (replicate n no_ticks) k no_ticks ≡ no_ticks
-zero_at zero k = refl
-zero_at (suc n) zero = refl
-zero_at (suc n) (suc k) = zero_at n k
+-- in a list of one value, each place has it, also past the end
+pub replicated_at : {X : Type 0} → (n k : ℕ) (x : X) → get_or (replicate n x) k x ≡ x
+replicated_at zero k x = refl
+replicated_at (suc n) zero x = refl
+replicated_at (suc n) (suc k) x = replicated_at n k x
 
-fine_all : (n : ℕ) (rs : List Release) → AllByRecursion (Fine 0 (replicate n no_ticks)) rs
-fine_all n [] = tt
-fine_all n (r ∷ rs) = (fine_from 0 (replicate n no_ticks) r (omega arith) (omega (arith, ap (λ t. t.0) (zero_at n r.place))), fine_all n rs)
+fine_all : (n : ℕ) (rs : List Release) → All (Fine 0 (replicate n no_ticks)) rs
+fine_all n rs k d lt = let q = get_or rs k d in fine_from 0 (replicate n no_ticks) q (omega arith) (omega (arith, ap (λ t. t.0) (replicated_at n q.place no_ticks)))
 
 pub one_pass : (ts : List Task) (h n : ℕ) (rs : List Release) → length ts ≤ length (replicate n no_ticks) → lawful_after ts h 0 (replicate n no_ticks) rs ≡ lawful ts h rs
 one_pass ts h n rs l =
@@ -144,12 +140,7 @@ one_pass ts h n rs l =
 
 -- a lawful list, release by release
 
-later_at : (ts : List Task) (r : Release) (rs : List Release) (k : ℕ) → AllByRecursion (Follows ts r) rs → k < length rs → r.instant.0 ≤ (get_or rs k no_release).instant.0
-later_at ts r [] k a l = absurd (omega arith)
-later_at ts r (q ∷ rs) zero a l = a.0.later
-later_at ts r (q ∷ rs) (suc k) a l = later_at ts r rs k a.1 (omega arith)
-
-pub lawful_parts : (ts : List Task) (h : ℕ) (r : Release) (rs : List Release) → lawful ts h (r ∷ rs) ≡ true → (inside ts h r ≡ true) × AllByRecursion (Follows ts r) rs × (lawful ts h rs ≡ true)
+pub lawful_parts : (ts : List Task) (h : ℕ) (r : Release) (rs : List Release) → lawful ts h (r ∷ rs) ≡ true → (inside ts h r ≡ true) × All (Follows ts r) rs × (lawful ts h rs ≡ true)
 lawful_parts ts h r rs e =
     let w = and_parts (inside ts h r) (all_may_follow ts r rs && lawful ts h rs) e in
     let v = and_parts (all_may_follow ts r rs) (lawful ts h rs) w.1 in
@@ -163,7 +154,7 @@ orderly_places ts h (r ∷ rs) e (suc k) l = orderly_places ts h rs (lawful_part
 orderly_rise : (ts : List Task) (h : ℕ) (rs : List Release) → lawful ts h rs ≡ true → (j k : ℕ) → j ≤ k → k < length rs → (get_or rs j no_release).instant.0 ≤ (get_or rs k no_release).instant.0
 orderly_rise ts h [] e j k a l = absurd (omega arith)
 orderly_rise ts h (r ∷ rs) e zero zero a l = omega arith
-orderly_rise ts h (r ∷ rs) e zero (suc k) a l = later_at ts r rs k (lawful_parts ts h r rs e).1 (omega arith)
+orderly_rise ts h (r ∷ rs) e zero (suc k) a l = ((lawful_parts ts h r rs e).1 k no_release (omega arith)).later
 orderly_rise ts h (r ∷ rs) e (suc j) zero a l = absurd (omega arith)
 orderly_rise ts h (r ∷ rs) e (suc j) (suc k) a l = orderly_rise ts h rs (lawful_parts ts h r rs e).2 j k (omega arith) (omega arith)
 
@@ -172,23 +163,7 @@ orderly ts h rs e = record { places = orderly_places ts h rs e; rise = orderly_r
 
 -- within the limits, deadlines fit up to the largest horizon
 pub near_fits : (ts : List Task) (t : ℕ) → all_within ts ≡ true → t ≤ 2000000 → deadlines_fit ts t ≡ true
-near_fits [] t e l = refl
-near_fits (x ∷ ts) t e l =
-    let w = and_parts (within_limits x) (all_within ts) e in
-    let b = limits x w.0 in
-    and_from (ltb (t + x.period.0) (2 ^ 32)) (deadlines_fit ts t) (lt-ltb (t + x.period.0) (2 ^ 32) (omega (arith, b.period_to))) (near_fits ts t w.1 l)
-
--- one turn of the loop over the tasks
-
-module _ (ts : List Task) (i : ℕ) (inv : all_within (drop i ts) ≡ all_within ts) where
-  pub within_stop : i < length ts → false ≡ within_limits (get_or ts i no_task) → false ≡ all_within ts
-  within_stop l e = ap (λ b. b && all_within (drop (i + 1) ts)) e ∙ sym (at_drop_more all_within ts i no_task l) ∙ inv
-
-  pub within_more : i < length ts → true ≡ within_limits (get_or ts i no_task) → all_within (drop (i + 1) ts) ≡ all_within ts
-  within_more l e = ap (λ b. b && all_within (drop (i + 1) ts)) e ∙ sym (at_drop_more all_within ts i no_task l) ∙ inv
-
-  pub within_all : length ts ≤ i → true ≡ all_within ts
-  within_all l = sym (at_drop_all all_within ts i l) ∙ inv
+near_fits ts t e l = list_all-from_AllPass (deadline_fits t) ts (λ k d lt. lt-ltb (t + (get_or ts k d).period.0) (2 ^ 32) (omega (arith, (all_limits ts e k d lt).period_to)))
 
 -- one turn of the loop over the releases
 

@@ -1,5 +1,5 @@
 -- The states of a run instant by instant, the end of the run, and one tick as one place sees it.
-use Rattle.std.proofs.Common.{◌≡◌, ℕ, zero, suc, ◌+◌, ◌<◌, ◌≤◌, Bool, true, false, cond, eqb, ◌⊎◌, List, [], ◌∷◌, length, get_or, replicate, Some, None, Option, sym, refl, ap, ◌∙◌, subst, inl, inr, zero-add, arith}
+use Rattle.std.proofs.Common.{◌≡◌, ℕ, zero, suc, ◌+◌, ◌<◌, ◌≤◌, Bool, true, false, cond, eqb, ◌⊎◌, List, [], ◌∷◌, length, get_or, Some, None, Option, sym, refl, ap, ◌∙◌, subst, inl, inr, zero-add, arith}
 use Rattle.std.proofs.lemmas.List.{length-replicate}
 use Rattle.std.proofs.lemmas.Bool.{eq-eqb, cases_lt}
 use Rattle.tasks.specs.declared.task.Task.{Task}
@@ -24,11 +24,6 @@ length-served (Waiting l d ∷ ss) = refl
 pub length-states : (ts : List Task) (rs : List Release) (n : ℕ) → length (states_at ts rs n) ≡ length ts
 length-states ts rs zero = length-replicate (length ts) Idle
 length-states ts rs (suc n) = length-served (ready_at ts rs n) ∙ length-with rs n 0 ts (states_at ts rs n) ∙ length-states ts rs n
-
-pub idle_at : (n k : ℕ) → get_or (replicate n Idle) k Idle ≡ Idle
-idle_at zero k = refl
-idle_at (suc n) zero = refl
-idle_at (suc n) (suc k) = idle_at n k
 
 pub ready_is : (ts : List Task) (rs : List Release) (n p : ℕ) → p < length ts → get_or (ready_at ts rs n) p Idle ≡ cond (due rs p n) (fresh (get_or ts p no_task) n) (get_or (states_at ts rs n) p Idle)
 ready_is ts rs n p l = with_at_0 rs n p ts (states_at ts rs n) (length-states ts rs n) l
@@ -92,20 +87,20 @@ missed_some t k [] p Idle e d n = d
 missed_some t k [] p (Waiting l x) e d n = let z : ◌≡◌ {A = ℕ} 0 1 = cc in omega arith
 missed_some t k (Idle ∷ ss) zero Idle e d n = d
 missed_some t k (Idle ∷ ss) zero (Waiting l x) e d n = let z : ◌≡◌ {A = ℕ} 0 1 = cc in omega arith
-missed_some t k (Idle ∷ ss) (suc p) s e d n = missed_some t (suc k) ss p s e d n
+missed_some t k (Idle ∷ ss) (suc p) s e d n = missed_some t (k + 1) ss p s e d n
 missed_some t k (Waiting l x ∷ ss) zero s e d n =
     let now : x.0 ≡ t = subst (DueAt t) (sym e) d in
-    let m = ap (λ b. cond b (Some k) (first_missed t (suc k) ss)) (eq-eqb x.0 t now) in
+    let m = ap (λ b. cond b (Some k) (first_missed t (k + 1) ss)) (eq-eqb x.0 t now) in
     let z : ◌≡◌ {A = ℕ} 0 1 = cc in
     omega arith
-missed_some t k (Waiting l x ∷ ss) (suc p) s e d n = go (eqb x.0 t) refl (missed_some t (suc k) ss p s e d)
+missed_some t k (Waiting l x ∷ ss) (suc p) s e d n = go (eqb x.0 t) refl (missed_some t (k + 1) ss p s e d)
   where
-    go : (b : Bool) → eqb x.0 t ≡ b → (first_missed t (suc k) ss ≡ None → ⊥) → ⊥
+    go : (b : Bool) → eqb x.0 t ≡ b → (first_missed t (k + 1) ss ≡ None → ⊥) → ⊥
     go true q ih =
-        let m = ap (λ b. cond b (Some k) (first_missed t (suc k) ss)) q in
+        let m = ap (λ b. cond b (Some k) (first_missed t (k + 1) ss)) q in
         let z : ◌≡◌ {A = ℕ} 0 1 = cc in
         omega arith
-    go false q ih = ih (sym (ap (λ b. cond b (Some k) (first_missed t (suc k) ss)) q) ∙ n)
+    go false q ih = ih (sym (ap (λ b. cond b (Some k) (first_missed t (k + 1) ss)) q) ∙ n)
 
 -- a run from the states of an instant
 
@@ -182,14 +177,3 @@ no_miss ts horizon rs h = go (outcome ts horizon rs).miss (miss_is_first ts hori
         let b = f.1 in
         let z : ◌≡◌ {A = ℕ} 0 1 = cc in
         absurd (omega arith)
-
--- late at an instant up to the horizon, and some miss is answered
-pub some_miss : (ts : List Task) (horizon : ℕ) (rs : List Release) (n p : ℕ) → n ≤ horizon → first_missed n 0 (states_at ts rs n) ≡ Some p → (m : Miss) × ((outcome ts horizon rs).miss ≡ Some m)
-some_miss ts horizon rs n p l e = go (outcome ts horizon rs).miss (miss_is_first ts horizon rs)
-  where
-    go : (o : Option Miss) → FirstMiss ts horizon rs o → (m : Miss) × (o ≡ Some m)
-    go None f =
-        let a = f n l in
-        let z : ◌≡◌ {A = ℕ} 0 1 = cc in
-        absurd (omega arith)
-    go (Some m) f = (m, refl)

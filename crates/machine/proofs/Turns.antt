@@ -1,33 +1,10 @@
 -- What one turn of each loop over the states keeps.
-use Rattle.std.proofs.Common.{◌≡◌, ℕ, suc, ◌+◌, ◌<◌, ◌≤◌, Bool, true, false, cond, eqb, List, [], ◌∷◌, ◌++◌, length, get_or, take, drop, set, Some, None, Option, sym, refl, ap, ◌∙◌, add-one, arith}
-use Rattle.std.proofs.lemmas.List.{at_drop_more, at_drop_all, append_assoc, take_more, drop_all, set_split, append-nil, take_all}
+use Rattle.std.proofs.Common.{◌≡◌, ℕ, ◌+◌, ◌<◌, List, [], ◌∷◌, ◌++◌, length, get_or, take, drop, set, Some, None, sym, refl, ap, ◌∙◌, add-one, arith}
+use Rattle.std.proofs.lemmas.List.{at_drop_more, append_assoc, take_more, set_split}
 use Rattle.machine.specs.declared.state.State.{State}
 use Rattle.machine.specs.declared.state.State.TheVariants.{Idle, Waiting}
-use Rattle.machine.specs.Machine.{first_missed, served, busy_tick, worked}
-use Rattle.machine.specs.Events.{late, given_tick}
-use Rattle.machine.specs.Moments.{or_else}
-
-first_cons : (t i : ℕ) (s : State) (ss : List State) (found : Option ℕ)
-    → or_else (or_else found (cond (late t s) (Some i) None)) (first_missed t (suc i) ss) ≡ or_else found (first_missed t i (s ∷ ss))
-first_cons t i s ss (Some p) = refl
-first_cons t i Idle ss None = refl
-first_cons t i (Waiting l d) ss None = go (eqb d.0 t)
-  where
-    go : (b : Bool) → or_else (cond b (Some i) None) (first_missed t (suc i) ss) ≡ cond b (Some i) (first_missed t (suc i) ss)
-    go true = refl
-    go false = refl
-
-pub first_more : (t : ℕ) (ss : List State) (i : ℕ) (found next : Option ℕ) → i < length ss → next ≡ or_else found (cond (late t (get_or ss i Idle)) (Some i) None)
-    → or_else next (first_missed t (i + 1) (drop (i + 1) ss)) ≡ or_else found (first_missed t i (drop i ss))
-first_more t ss i found next lt e =
-    ap (λ o. or_else o (first_missed t (i + 1) (drop (i + 1) ss))) e
-    ∙ ap (λ n. or_else (or_else found (cond (late t (get_or ss i Idle)) (Some i) None)) (first_missed t n (drop (i + 1) ss))) (add-one i)
-    ∙ first_cons t i (get_or ss i Idle) (drop (i + 1) ss) found
-    ∙ ap (or_else found) (sym (at_drop_more (first_missed t i) ss i Idle lt))
-
-pub first_all : (t : ℕ) (ss : List State) (i : ℕ) (found : Option ℕ) → length ss ≤ i → or_else found (first_missed t i (drop i ss)) ≡ found
-first_all t ss i (Some p) le = refl
-first_all t ss i None le = at_drop_all (first_missed t i) ss i le
+use Rattle.machine.specs.Machine.{served, busy_tick, worked}
+use Rattle.machine.specs.Events.{given_tick}
 
 -- the states below i are as they were, and the first waiting task stands from i on
 pub record Seeking (old ss : List State) (i : ℕ) : Type 0 where
@@ -66,9 +43,3 @@ module _ (ss : List State) (i : ℕ) (lt : i < length ss) where
         set_split ss i next lt ∙ ap (λ n. take i ss ++ next ∷ drop n ss) (sym (add-one i)) ∙ d.0 ∙ w.rest ∙ ap served w.same,
         sym d.1 ∙ w.busy ∙ ap busy_tick w.same,
       )
-
-pub seek_none : (ss : List State) (i : ℕ) → length ss ≤ i → (old : List State) → Seeking old ss i → (ss ≡ served old) × (0 ≡ busy_tick old)
-seek_none ss i le old w = (
-  sym (append-nil ss) ∙ sym (ap (λ l. l ++ served (drop i ss)) (take_all i ss le) ∙ ap (λ l. ss ++ served l) (drop_all i ss le)) ∙ w.rest ∙ ap served w.same,
-  sym (ap busy_tick (drop_all i ss le)) ∙ w.busy ∙ ap busy_tick w.same,
-)

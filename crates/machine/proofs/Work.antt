@@ -1,13 +1,12 @@
 -- The work of a run: what is released, what is done and what is left.
-use Rattle.std.proofs.Common.{◌≡◌, ℕ, zero, suc, ◌+◌, ◌-◌, ◌<◌, ◌≤◌, Bool, true, false, cond, ◌&&◌, ◌||◌, eqb, ltb, leb, ◌⊎◌, List, [], ◌∷◌, ◌++◌, length, get_or, set, replicate, sym, refl, ap, ◌∙◌, inl, inr, one-mul, arith}
-use Rattle.std.specs.List.{AllByRecursion}
-use Rattle.std.proofs.lemmas.Bool.{and_parts, and_right, or_left, or_right, eqb-true, eq-eqb, ne_eqb, leb-true, leb-false, lt-ltb, le-ltb, cases_Bool, cases_order, cond_both, cond-true, cond-false}
+use Rattle.std.proofs.Common.{◌≡◌, ℕ, All, zero, suc, ◌+◌, ◌-◌, ◌<◌, ◌≤◌, Bool, true, false, cond, ◌&&◌, ◌||◌, eqb, ltb, leb, ◌⊎◌, List, [], ◌∷◌, ◌++◌, length, get_or, set, replicate, sym, refl, ap, ◌∙◌, inl, inr, one-mul, arith}
+use Rattle.std.proofs.lemmas.List.Elements.{All-head, All-tail}
+use Rattle.std.proofs.lemmas.Bool.{and_right, or_left, or_right, eqb-true, eq-eqb, ne_eqb, leb-true, lt-ltb, le-ltb, cases_Bool, cases_order, cond_both, cond-true, cond-false}
 use Rattle.tasks.specs.declared.task.Task.{Task}
 use Rattle.tasks.specs.declared.units.Ticks.{Ticks}
 use Rattle.tasks.specs.declared.units.Units.{Units}
 use Rattle.tasks.specs.Demand.{no_task}
-use Rattle.tasks.specs.Limits.{all_within, within_limits}
-use Rattle.tasks.proofs.Bounds.{limits}
+use Rattle.tasks.specs.Limits.{all_within}
 use Rattle.machine.specs.declared.state.State.{State}
 use Rattle.machine.specs.declared.state.State.TheVariants.{Idle, Waiting}
 use Rattle.machine.specs.declared.state.Release.{Release}
@@ -19,47 +18,19 @@ use Rattle.machine.specs.Laws.{ready_at, end_of, left_of, work_left, work_done, 
 use Rattle.machine.proofs.Coming.{due_append, length-with, with_at_0, with_same, with_none, with_push}
 use Rattle.machine.proofs.Separated.{Follows, lawful_parts}
 use Rattle.machine.proofs.Running.{busy_le}
+use Rattle.machine.proofs.Live.{Live, live_ready}
 use Rattle.machine.proofs.Trace.{length-states, busy_ticks, outcome_ends}
 use Rattle.machine.proofs.Job.{limits_at, due_find, due_place, released_when_idle}
-
--- whoever waits has work left
-
-abbrev Live : State → Type 0
-Live Idle = Unit {0}
-Live (Waiting l d) = 1 ≤ l.0
-
-live_with : (rs : List Release) (t p : ℕ) (ts : List Task) (ss : List State) → all_within ts ≡ true → AllByRecursion Live ss → AllByRecursion Live (with_releases rs t p ts ss)
-live_with rs t p [] ss w a = a
-live_with rs t p (x ∷ ts) [] w a = tt
-live_with rs t p (x ∷ ts) (s ∷ ss) w a =
-    let v = and_parts (within_limits x) (all_within ts) w in
-    (cond_both (due rs p t) (fresh x t) s Live (λ e. (limits x v.0).work_from) (λ e. a.0), live_with rs t (suc p) ts ss v.1 a.1)
-
-live_worked : (l : Units) (d : Ticks) → Live (worked l d)
-live_worked l d = cond_both (leb l.0 1) Idle (Waiting (record { 0 = l.0 - 1 }) d) Live (λ e. tt) (λ e. omega (arith, leb-false l.0 1 e))
-
-live_served : (ss : List State) → AllByRecursion Live ss → AllByRecursion Live (served ss)
-live_served [] a = tt
-live_served (Idle ∷ ss) a = (tt, live_served ss a.1)
-live_served (Waiting l d ∷ ss) a = (live_worked l d, a.1)
-
-live_idle : (n : ℕ) → AllByRecursion Live (replicate n Idle)
-live_idle zero = tt
-live_idle (suc n) = (tt, live_idle n)
-
-live_ready : (ts : List Task) (rs : List Release) → all_within ts ≡ true → (n : ℕ) → AllByRecursion Live (ready_at ts rs n)
-live_ready ts rs w zero = live_with rs 0 0 ts (states_at ts rs 0) w (live_idle (length ts))
-live_ready ts rs w (suc n) = live_with rs (suc n) 0 ts (states_at ts rs (suc n)) w (live_served (ready_at ts rs n) (live_ready ts rs w n))
 
 -- a busy tick does one unit, and another none
 
 worked_left : (l : Units) (d : Ticks) → 1 ≤ l.0 → left_of (worked l d) + 1 ≡ l.0
 worked_left l d h = cond_both (leb l.0 1) Idle (Waiting (record { 0 = l.0 - 1 }) d) (λ s. left_of s + 1 ≡ l.0) (λ e. omega (arith, leb-true l.0 1 e)) (λ e. omega arith)
 
-served_left : (ss : List State) → AllByRecursion Live ss → work_left (served ss) + busy_tick ss ≡ work_left ss
+served_left : (ss : List State) → All Live ss → work_left (served ss) + busy_tick ss ≡ work_left ss
 served_left [] a = refl
-served_left (Idle ∷ ss) a = omega (arith, served_left ss a.1)
-served_left (Waiting l d ∷ ss) a = omega (arith, worked_left l d a.0)
+served_left (Idle ∷ ss) a = omega (arith, served_left ss (All-tail Live Idle ss a))
+served_left (Waiting l d ∷ ss) a = omega (arith, worked_left l d (All-head Live (Waiting l d) ss a))
 
 done_is_busy : (ts : List Task) (rs : List Release) → all_within ts ≡ true → (n : ℕ) → work_left (states_at ts rs (suc n)) + busy_tick (ready_at ts rs n) ≡ work_left (ready_at ts rs n)
 done_is_busy ts rs w n = served_left (ready_at ts rs n) (live_ready ts rs w n)

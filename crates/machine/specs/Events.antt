@@ -1,5 +1,5 @@
 -- What one event does to one task: its state after it, and the mark that it leaves.
-use Rattle.std.specs.Prelude.{ℕ, ◌+◌, Bool, false, cond, Some, None, Option, ◌==◌}
+use Rattle.std.specs.Prelude.{ℕ, ◌+◌, cond, Some, None, Option}
 use Rattle.tasks.specs.declared.task.Task.{Task}
 use Rattle.machine.specs.declared.state.State.{State}
 use Rattle.machine.specs.declared.state.State.TheVariants.{Idle, Waiting}
@@ -7,12 +7,7 @@ use Rattle.machine.specs.declared.event.Event.{Event}
 use Rattle.machine.specs.declared.event.Event.TheVariants.{Deadline, Release, Run}
 use Rattle.machine.specs.declared.event.Mark.{Mark}
 use Rattle.machine.specs.declared.event.Mark.TheVariants.{Quiet, Missed, Busy}
-use Rattle.machine.specs.Machine.{worked}
-
--- a waiting task has its deadline now
-abbrev pub late : ℕ → State → Bool
-late instant Idle = false
-late instant (Waiting left deadline) = deadline.0 == instant
+use Rattle.machine.specs.Machine.{late, worked}
 
 -- at an instant only a late task leaves a mark, and at a run only a waiting one
 abbrev pub after : State → Event → State × Mark

@@ -1,5 +1,6 @@
 -- Lawful release lists: what a line may do. Releases are sporadic: a period is the least distance between two releases of a task.
 use Rattle.std.specs.Prelude.{ℕ, ◌+◌, Bool, true, not, ◌&&◌, ◌||◌, List, [], ◌∷◌, length, ◌==◌, nat_le, nat_lt, slice_index_or}
+use Rattle.std.specs.List.{list_all}
 use Rattle.tasks.specs.declared.task.Task.{Task}
 use Rattle.tasks.specs.Demand.{no_task}
 use Rattle.machine.specs.declared.state.Release.{Release}
@@ -13,8 +14,7 @@ abbrev pub may_follow : List Task → Release → Release → Bool
 may_follow ts r q = nat_le r.instant.0 q.instant.0 && (not (r.place == q.place) || nat_le (r.instant.0 + (slice_index_or ts r.place no_task).period.0) q.instant.0)
 
 abbrev pub all_may_follow : List Task → Release → List Release → Bool
-all_may_follow ts r [] = true
-all_may_follow ts r (q ∷ qs) = may_follow ts r q && all_may_follow ts r qs
+all_may_follow ts r qs = list_all (may_follow ts r) qs
 
 -- each release is inside, and each may stand after those before it
 abbrev pub lawful : List Task → ℕ → List Release → Bool

@@ -1,5 +1,6 @@
 -- The step machine: a list of tasks in some fixed priority order, run instant by instant. A task's place in the list is counted from 0.
-use Rattle.std.specs.Prelude.{ℕ, zero, suc, ◌+◌, ◌-◌, Bool, false, cond, ◌&&◌, ◌||◌, List, [], ◌∷◌, length, replicate, Some, None, Option, ◌==◌, nat_le}
+use Rattle.std.specs.Prelude.{ℕ, zero, suc, ◌+◌, ◌-◌, Bool, false, cond, ◌&&◌, List, [], ◌∷◌, length, replicate, Some, None, Option, ◌==◌, nat_le}
+use Rattle.std.specs.List.{list_any, position_from}
 use Rattle.tasks.specs.declared.task.Task.{Task}
 use Rattle.tasks.specs.declared.units.Units.{Units}
 use Rattle.tasks.specs.declared.units.Ticks.{Ticks}
@@ -9,16 +10,22 @@ use Rattle.machine.specs.declared.state.State.TheVariants.{Idle, Waiting}
 use Rattle.machine.specs.declared.state.Release.{Release}
 use Rattle.machine.specs.declared.state.Outcome.{Outcome}
 
+-- a waiting task has its deadline now
+abbrev pub late : ℕ → State → Bool
+late now Idle = false
+late now (Waiting left deadline) = deadline.0 == now
+
 -- 1. If waiting tasks have their deadline now, the first of them in the order has missed. Places are counted on from `place`.
 abbrev pub first_missed : ℕ → ℕ → List State → Option ℕ
-first_missed now place [] = None
-first_missed now place (Idle ∷ ss) = first_missed now (suc place) ss
-first_missed now place (Waiting left deadline ∷ ss) = cond (deadline.0 == now) (Some place) (first_missed now (suc place) ss)
+first_missed now place ss = position_from (late now) place ss
+
+-- the release is of the task at `place`, and now
+abbrev pub releases : ℕ → ℕ → Release → Bool
+releases place now r = r.place == place && r.instant.0 == now
 
 -- the list releases the task at `place` now
 abbrev pub due : List Release → ℕ → ℕ → Bool
-due [] place now = false
-due (r ∷ rs) place now = (r.place == place && r.instant.0 == now) || due rs place now
+due rs place now = list_any (releases place now) rs
 
 -- 2. Each task released now waits with work C and deadline now + T.
 abbrev pub with_releases : List Release → ℕ → ℕ → List Task → List State → List State

@@ -31,12 +31,11 @@ horizon_allowed horizon = nat_le horizon 2000000
 abbrev pub releases_allowed : List Task → ℕ → List Release → Bool
 releases_allowed ts horizon rs = nat_le (length rs) 65536 && lawful ts horizon rs
 
--- the number of the first cause to refuse: the tasks are looked at first, then the horizon, then the releases
-abbrev pub first_cause : List Task → ℕ → List Release → Option ℕ
-first_cause ts horizon rs =
-    cond (tasks_allowed ts) (cond (horizon_allowed horizon) (cond (releases_allowed ts horizon rs) None (Some (number_of Releases))) (Some (number_of Horizon))) (Some (number_of Tasks))
+-- the first cause to refuse: the tasks are looked at first, then the horizon, then the releases
+abbrev pub first_cause : List Task → ℕ → List Release → Option Refusal
+first_cause ts horizon rs = cond (tasks_allowed ts) (cond (horizon_allowed horizon) (cond (releases_allowed ts horizon rs) None (Some Releases)) (Some Horizon)) (Some Tasks)
 
 -- a rehearsal answers how the run of the machine ends, where nothing refuses it, and else the first cause
 abbrev pub Rehearsed : List Task → ℕ → List Release → Result Outcome Refusal → Type 0
 Rehearsed ts horizon rs (Ok o) = (first_cause ts horizon rs ≡ None) × (o ≡ outcome ts horizon rs)
-Rehearsed ts horizon rs (Err e) = first_cause ts horizon rs ≡ Some (number_of e)
+Rehearsed ts horizon rs (Err e) = first_cause ts horizon rs ≡ Some e

@@ -1,4 +1,4 @@
-// What a rehearsal looks at before it runs.
+// What a plan is looked over for.
 ghost use Rattle.std.specs.Prelude.{◌≡◌, ◌+◌, ◌^◌, ◌<◌, ◌≤◌, true, ◌&&◌, length, nat_le, nat_lt};
 ghost use Rattle.tasks.specs.Limits.{all_within};
 ghost use Rattle.machine.specs.Lawful.{lawful};
@@ -6,60 +6,48 @@ ghost use Rattle.machine.specs.Refusals.{tasks_allowed, horizon_allowed, release
 ghost use Rattle.machine.specs.Separation.{may_come};
 
 use crate::state::Release;
-use tasks::{Task, Ticks};
+use tasks::{Task, Ticks, all_keep_limits};
 
-// Whether there are at most 33 tasks.
-fn few(count: usize) -> bool
+// Whether there may be so many tasks: at most 33.
+fn is_task_count(count: usize) -> bool
     ensures { result ≡ nat_le count 33 }
 {
     count <= 33
 }
 
-// Whether there are at most 65,536 releases.
-fn short(count: usize) -> bool
+// Whether there may be so many releases: at most 65,536.
+fn is_release_count(count: usize) -> bool
     ensures { result ≡ nat_le count 65536 }
 {
     count <= 65_536
 }
 
 // Whether the horizon is at most 2,000,000 ticks.
-pub(crate) fn near(horizon: Ticks) -> bool
+pub(crate) fn is_near(horizon: Ticks) -> bool
     ensures { result ≡ horizon_allowed horizon.0 }
 {
     horizon.0 <= 2_000_000
-}
-
-// Whether each task keeps its limits.
-fn keep_limits(tasks: &[Task]) -> bool
-    ensures { result ≡ all_within tasks.now }
-{
-    for task in tasks {
-        if !task.keeps_limits() {
-            return false;
-        }
-    }
-    true
 }
 
 // Whether the tasks may be rehearsed.
 pub(crate) fn can_run(tasks: &[Task]) -> bool
     ensures { result ≡ tasks_allowed tasks.now }
 {
-    few(tasks.len()) && keep_limits(tasks)
+    is_task_count(tasks.len()) && all_keep_limits(tasks)
 }
 
 // Whether the release's place exists, and its instant is below the horizon.
 fn is_inside(release: &Release, count: usize, horizon: Ticks) -> bool
     ensures { result ≡ (nat_lt release.now.place count && nat_lt release.now.instant.0 horizon.0) }
 {
-    release.place < count && release.instant.0 < horizon.0
+    release.place < count && release.instant < horizon
 }
 
 // Whether the release is not before the last one, nor before its own place is free again.
 fn comes_in_time(release: &Release, last: Ticks, free: Ticks) -> bool
     ensures { result ≡ may_come last.0 free.0 release.now }
 {
-    last.0 <= release.instant.0 && free.0 <= release.instant.0
+    last <= release.instant && free <= release.instant
 }
 
 // When a place that is released at an instant may be released again.
@@ -70,7 +58,8 @@ fn free_from(instant: Ticks, period: Ticks) -> Ticks
     Ticks(instant.0 + period.0)
 }
 
-// Whether the releases are lawful, in one pass over them.
+// Whether the releases are lawful, in one pass over them. The pass carries the last instant, and for each place (of fixed memory, 33) when
+// it is free: a chain that carries both is no plainer.
 fn is_lawful(tasks: &[Task], horizon: Ticks, releases: &[Release]) -> bool
     requires few { length tasks.now ≤ 33 }
     requires limits { all_within tasks.now ≡ true }
@@ -98,5 +87,5 @@ pub(crate) fn can_come(tasks: &[Task], horizon: Ticks, releases: &[Release]) -> 
     requires near { horizon_allowed horizon.0 ≡ true }
     ensures { result ≡ releases_allowed tasks.now horizon.0 releases.now }
 {
-    short(releases.len()) && is_lawful(tasks, horizon, releases)
+    is_release_count(releases.len()) && is_lawful(tasks, horizon, releases)
 }

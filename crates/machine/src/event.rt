@@ -1,7 +1,7 @@
 // One task: its own state, matched together with what happens to it.
 ghost use Rattle.std.specs.Prelude.{◌≡◌, ◌+◌, ◌^◌, ◌<◌, if◌then◌else◌, nat_eq};
-ghost use Rattle.machine.specs.Events.{after, late, given_tick, fresh};
-ghost use Rattle.machine.specs.Machine.{worked};
+ghost use Rattle.machine.specs.Events.{after, given_tick, fresh};
+ghost use Rattle.machine.specs.Machine.{late, worked};
 
 use crate::state::State;
 use tasks::{Speed, Task, Ticks, Units};
@@ -14,7 +14,7 @@ pub(crate) enum Event {
     Run,
 }
 
-// What an event showed: nothing, a missed deadline, or a tick in which work was done.
+// What an event showed: nothing, a missed deadline, or a tick in which work was done. Three cases, so neither an Option nor a flag.
 #[derive(Clone, Copy)]
 pub(crate) enum Mark {
     Quiet,
@@ -27,7 +27,7 @@ fn after_tick(left: Units, deadline: Ticks) -> State
     ensures { result ≡ worked left deadline }
 {
     let done = Speed::one().units_in(Ticks(1));
-    if left.0 <= done.0 {
+    if left <= done {
         State::Idle
     } else {
         State::Waiting {
@@ -41,14 +41,14 @@ fn after_tick(left: Units, deadline: Ticks) -> State
 fn at_deadline(deadline: Ticks, instant: Ticks) -> Mark
     ensures { result ≡ (if nat_eq deadline.0 instant.0 then Mark.Missed else Mark.Quiet) }
 {
-    if deadline.0 == instant.0 {
+    if deadline == instant {
         Mark::Missed
     } else {
         Mark::Quiet
     }
 }
 
-// A task after an event, and what the event showed.
+// A task after an event, and what the event showed: each step is a match of the task's own state together with the event.
 pub(crate) fn react(state: State, event: Event) -> (State, Mark)
     ensures { result ≡ after state event }
 {
@@ -91,19 +91,15 @@ pub(crate) fn misses(state: State, instant: Ticks) -> bool
     ensures { result ≡ late instant.0 state }
 {
     let (_, mark) = react(state, Event::Deadline { instant });
-    match mark {
-        Mark::Missed => true,
-        Mark::Quiet | Mark::Busy => false,
-    }
+    matches!(mark, Mark::Missed)
 }
 
 // The task after it is given the tick: none where it does not wait.
 pub(crate) fn work_on(state: State) -> Option<State>
     ensures { result ≡ given_tick state }
 {
-    let (next, mark) = react(state, Event::Run);
-    match mark {
-        Mark::Busy => Some(next),
-        Mark::Quiet | Mark::Missed => None,
+    match react(state, Event::Run) {
+        (next, Mark::Busy) => Some(next),
+        (_, Mark::Quiet | Mark::Missed) => None,
     }
 }

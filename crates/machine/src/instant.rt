@@ -1,98 +1,92 @@
-// One instant of the machine, over the states of all tasks.
-ghost use Rattle.std.specs.Prelude.{◌≡◌, ◌+◌, ◌<◌, true, length, if◌then◌else◌, Some, None, ◌==◌};
-ghost use Rattle.machine.specs.Machine.{first_missed, with_releases, busy_tick, served, at_instant};
-ghost use Rattle.machine.specs.Cursor.{Cursor, Orderly};
-ghost use Rattle.machine.specs.Moments.{step_of, or_else, MovedOn, deadlines_fit};
+// The parts of one instant of the machine, over the states of all tasks.
+ghost use Rattle.std.specs.Prelude.{◌≡◌, true, length, ◌==◌, ◌&&◌, nat_lt, take_while};
+ghost use Rattle.machine.specs.Machine.{first_missed, with_releases, busy_tick, served};
+ghost use Rattle.machine.specs.Moments.{deadlines_fit, is_now, Done};
 
 use crate::event::{misses, with_job, work_on};
 use crate::state::{Moment, Release, State};
 use tasks::{Task, Ticks};
 
-// What was found before, else this place if it has missed.
-fn first_of(found: Option<usize>, place: usize, missed: bool) -> Option<usize>
-    ensures { result ≡ or_else found (if missed then Some place else None) }
-{
-    match found {
-        Some(earlier) => Some(earlier),
-        None => { if missed { Some(place) } else { None } }
-    }
-}
-
 // The first waiting task in the order that has its deadline now.
 pub(crate) fn first_missed(states: &[State], instant: Ticks) -> Option<usize>
     ensures { result ≡ first_missed instant.0 0 states.now }
 {
-    let mut found = None;
-    for i in 0..states.len() {
-        found = first_of(found, i, misses(states[i], instant));
+    states.iter().position(|state| misses(*state, instant))
+}
+
+// Whether a release is now.
+fn is_now(release: &Release, instant: Ticks) -> bool
+    ensures { result ≡ is_now instant.0 release.now }
+{
+    release.instant == instant
+}
+
+// How many releases from the front on are now.
+fn count_now(releases: &[Release], instant: Ticks) -> usize
+    ensures { result ≡ length (take_while (is_now instant.0) releases.now) }
+{
+    releases
+        .iter()
+        .take_while(|release| is_now(release, instant))
+        .count()
+}
+
+// The releases from the front on that are now.
+pub(crate) fn releases_now<'a>(releases: &'a [Release], instant: Ticks) -> &'a [Release]
+    ensures { result.now ≡ take_while (is_now instant.0) releases.now }
+{
+    &releases[..count_now(releases, instant)]
+}
+
+// Whether a release comes now to one of so many tasks.
+fn is_due(release: &Release, instant: Ticks, count: usize) -> bool
+    ensures { result ≡ (release.now.instant.0 == instant.0 && nat_lt release.now.place count) }
+{
+    release.instant == instant && release.place < count
+}
+
+// The releases that are now come to their tasks, wherever they stand in the list.
+fn release_all(tasks: &[Task], releases: &[Release], instant: Ticks, states: &mut [State])
+    requires sizes { length states.old ≡ length tasks.now }
+    requires fits { deadlines_fit tasks.now instant.0 ≡ true }
+    ensures { states.new ≡ with_releases releases.now instant.0 0 tasks.now states.old }
+{
+    for release in releases {
+        if is_due(release, instant, tasks.len()) {
+            states[release.place] = with_job(states[release.place], tasks[release.place], instant);
+        }
     }
-    found
 }
 
 // The first waiting task does its work of one tick; the busy ticks, 1 or 0.
-pub(crate) fn run_first(states: &mut [State]) -> Ticks
+fn run_first(states: &mut [State]) -> Ticks
     ensures states { states.new ≡ served states.old }
     ensures busy { result.0 ≡ busy_tick states.old }
 {
-    for i in 0..states.len() {
-        if let Some(next) = work_on(states[i]) {
-            states[i] = next;
+    for state in states.iter_mut() {
+        if let Some(next) = work_on(*state) {
+            *state = next;
             return Ticks(1);
         }
     }
     Ticks(0)
 }
 
-// Whether a release is now.
-fn is_now(release: Release, instant: Ticks) -> bool
-    ensures { result ≡ (release.instant.0 == instant.0) }
-{
-    release.instant.0 == instant.0
-}
-
-// The releases from the cursor on that are now come to their tasks; the cursor behind them.
-fn release_now(
-    tasks: &[Task],
-    releases: &[Release],
-    from: usize,
-    instant: Ticks,
-    states: &mut [State],
-) -> usize
-    requires orderly { Orderly tasks.now releases.now }
-    requires sizes { length states.old ≡ length tasks.now }
-    requires fits { deadlines_fit tasks.now instant.0 ≡ true }
-    requires cursor { Cursor releases.now from instant.0 }
-    ensures states { states.new ≡ with_releases releases.now instant.0 0 tasks.now states.old }
-    ensures cursor { Cursor releases.now result (instant.0 + 1) }
-{
-    let mut cursor = from;
-    while cursor < releases.len() && is_now(releases[cursor], instant) {
-        let place = releases[cursor].place;
-        states[place] = with_job(states[place], tasks[place], instant);
-        cursor += 1;
-    }
-    cursor
-}
-
 // One instant below the horizon: first the deadlines, then the releases, then the work.
 pub(crate) fn one_instant(
     tasks: &[Task],
     releases: &[Release],
-    cursor: &mut usize,
     instant: Ticks,
     states: &mut [State],
 ) -> Moment
-    requires orderly { Orderly tasks.now releases.now }
     requires sizes { length states.old ≡ length tasks.now }
     requires fits { deadlines_fit tasks.now instant.0 ≡ true }
-    requires cursor { Cursor releases.now cursor.old instant.0 }
-    ensures step { step_of result states.new ≡ at_instant tasks.now releases.now instant.0 states.old }
-    ensures cursor { MovedOn result releases.now cursor.new instant.0 }
+    ensures { Done tasks.now releases.now instant.0 states.old states.new result }
 {
     if let Some(place) = first_missed(states, instant) {
         return Moment::Missed(place);
     }
-    *cursor = release_now(tasks, releases, *cursor, instant, states);
+    release_all(tasks, releases, instant, states);
     let busy = run_first(states);
     Moment::Went(busy)
 }

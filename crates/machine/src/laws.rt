@@ -2,50 +2,42 @@
 ghost use Rattle.machine.specs.Laws.{MissIsFirst, OneUnitATick, BusyIsWorkDone, NoWorkIsLost, WaitsUntilDone, DoneByDeadline, ReleasedWhenIdle};
 
 /// The miss of a run is the first.
-pub fn miss_is_first() -> u8
+#[tactic(auto, using(crate::proofs::Trace::miss_is_first))]
+pub fn miss_is_first()
     ensures { MissIsFirst }
-{
-    0
-}
+{}
 
 /// In each tick at most one unit of work is done in all.
-pub fn one_unit_a_tick() -> u8
+#[tactic(auto, using(crate::proofs::Work::one_unit_a_tick))]
+pub fn one_unit_a_tick()
     ensures { OneUnitATick }
-{
-    0
-}
+{}
 
 /// The busy ticks of a run are the work done in it.
-pub fn busy_is_work_done() -> u8
+#[tactic(auto, using(crate::proofs::Work::busy_is_work_done))]
+pub fn busy_is_work_done()
     ensures { BusyIsWorkDone }
-{
-    0
-}
+{}
 
 /// Up to the end of a lawful run, what was released is done or still waits.
-pub fn no_work_is_lost() -> u8
+#[tactic(auto, using(crate::proofs::Work::no_work_is_lost))]
+pub fn no_work_is_lost()
     ensures { NoWorkIsLost }
-{
-    0
-}
+{}
 
 /// A task waits from its release until its work is done.
-pub fn waits_until_done() -> u8
+#[tactic(auto, using(crate::proofs::Job::waits_until_done))]
+pub fn waits_until_done()
     ensures { WaitsUntilDone }
-{
-    0
-}
+{}
 
 /// With no miss up to the horizon, every job whose deadline is at most the horizon is done by it.
-pub fn done_by_deadline() -> u8
+pub fn done_by_deadline()
     ensures { DoneByDeadline }
-{
-    0
-}
+{}
 
 /// In a lawful run no release finds its task still waiting.
-pub fn released_when_idle() -> u8
+#[tactic(auto, using(crate::proofs::Job::released_when_idle))]
+pub fn released_when_idle()
     ensures { ReleasedWhenIdle }
-{
-    0
-}
+{}

@@ -2,12 +2,15 @@
 #![tactic(auto)]
 
 mod checks;
+mod clock;
 mod event;
 mod instant;
 mod laws;
 mod moment;
+mod plan;
 mod refusal;
 mod rehearsal;
+mod run;
 mod state;
 
 pub use laws::{
@@ -15,6 +18,7 @@ pub use laws::{
     released_when_idle, waits_until_done,
 };
 pub use moment::step;
+pub use plan::Plan;
 pub use refusal::{Refusal, refusal_numbers_differ};
 pub use rehearsal::rehearse;
 pub use state::{Miss, Moment, Outcome, Release, State};

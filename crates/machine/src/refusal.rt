@@ -2,12 +2,12 @@
 ghost use Rattle.std.specs.Prelude.{◌≡◌};
 ghost use Rattle.machine.specs.Refusals.{number_of, NumbersDiffer};
 
-/// Why a rehearsal is refused: its tasks, its horizon or its releases.
-#[derive(Clone, Copy)]
+/// Why a rehearsal is refused: its tasks, its horizon or its releases, each with its number.
+#[derive(Clone, Copy, Debug, PartialEq, Eq)]
 pub enum Refusal {
-    Tasks,
-    Horizon,
-    Releases,
+    Tasks = 18,
+    Horizon = 19,
+    Releases = 20,
 }
 
 impl Refusal {
@@ -15,17 +15,11 @@ impl Refusal {
     pub fn number(&self) -> u32
         ensures { result ≡ number_of self.now }
     {
-        match *self {
-            Refusal::Tasks => 18,
-            Refusal::Horizon => 19,
-            Refusal::Releases => 20,
-        }
+        *self as u32
     }
 }
 
 /// No two refusals have one number.
-pub fn refusal_numbers_differ() -> u8
+pub fn refusal_numbers_differ()
     ensures { NumbersDiffer }
-{
-    0
-}
+{}

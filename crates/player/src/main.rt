@@ -9,19 +9,18 @@ fn main(rt: HostRuntime) -> anyhow::Result<()> {
     let mut input = Vec::new(rt.alloc());
     rt.stdin().take(65537).read_to_end(&mut input)?;
     let mut out = [0u8; 64];
-    let play = match begin(rt.alloc(), input.as_slice()) {
+    let Play { mut rack, records } = match begin(rt.alloc(), input.as_slice()) {
         Ok(play) => play,
         Err(Stop::Fault(fault)) => {
             let n = write_fault(&mut out, fault);
             rt.write_all(&out[0..n])?;
             return Ok(());
         }
-        Err(Stop::Memory) => return Err(anyhow!("no memory for the records")),
+        Err(Stop::Memory(_)) => return Err(anyhow!("no memory for the records")),
     };
-    let Play { mut rack, records } = play;
     let mut sheet = [0u32; 16];
-    for i in 0..records.len() {
-        let n = play_record(&mut rack, records[i], i as u32, &mut sheet, &mut out);
+    for (i, record) in records.iter().enumerate() {
+        let n = play_record(&mut rack, *record, i as u32, &mut sheet, &mut out);
         rt.write_all(&out[0..n])?;
     }
     Ok(())

@@ -1,5 +1,6 @@
--- What is carried of an answer: its line, and that a processor answered is below 16.
-use Rattle.std.proofs.Common.{◌≡◌, ℕ, ◌<◌, List, length, Ok, Err, Result, sym, refl, ap, arith}
+-- The line of what is carried is the line of the rack's answer.
+use Rattle.std.proofs.Common.{◌≡◌, ℕ, ◌^◌, ◌<◌, ltb, List, Ok, Err, Result, MatchResult, IsErrAnd, ap, ◌∙◌, arith}
+use Rattle.std.proofs.lemmas.Bool.{cond-true, lt-ltb}
 use Rattle.tasks.specs.declared.task.Task.{Task}
 use Rattle.tasks.specs.declared.units.Ticks.{Ticks}
 use Rattle.tasks.specs.declared.units.Units.{Units}
@@ -7,36 +8,32 @@ use Rattle.judges.specs.Laws.{Meaning}
 use Rattle.preferences.specs.Laws.{Relation}
 use Rattle.seating.specs.declared.refusal.AdmitRefusal.{AdmitRefusal}
 use Rattle.seating.specs.declared.refusal.WithdrawRefusal.{WithdrawRefusal}
-use Rattle.seating.specs.Refusals.{admitting, withdrawing, number_of}
-use Rattle.rack.specs.declared.rack.Rack.{Rack}
-use Rattle.rack.specs.Steps.{AdmitStep, WithdrawStep, lists_of}
-use Rattle.rack.proofs.Granting.{ok_no_err}
-use Rattle.rack.proofs.Shown.{length-first}
-use Rattle.playing.specs.Outcomes.{admission_marked, withdrawal_marked, carried, admission_line, withdrawal_line}
+use Rattle.seating.specs.declared.refused.Refused.{Refused}
+use Rattle.seating.specs.declared.refused.Refused.TheVariants.{Admitting, Withdrawing}
+use Rattle.rack.specs.Table.{Table, Sound}
+use Rattle.rack.specs.Steps.{AdmitStep, WithdrawStep}
+use Rattle.lines.specs.Texts.{admitted_line, withdrawn_line}
+use Rattle.playing.specs.Outcomes.{carried, in_line, admission_line, withdrawal_line}
 use Rattle.playing.specs.Playing.{admit_line, withdraw_line}
 
-same : {A E : Type 0} (a b : A) → ◌≡◌ {A = Result A E} (Ok a) (Ok b) → a ≡ b
-same a b h = cc
+-- an answer whose refusal is put among those of all calls
+abbrev pub IsMapped : {A R : Type 0} → (R → Refused) → Result A R → Result A Refused → Type 0
+IsMapped up r q = MatchResult r (λ x. q ≡ Ok x) (λ e. IsErrAnd q (λ d. d ≡ up e))
 
-module _ {J P : Type 0} (mean : J → Meaning) (bef : P → Relation) (r s : Rack J P) where
-  few : (p : ℕ) → p < length (lists_of r) → p < 4294967296
-  few p h = omega (arith, h, length-first r.table r.m r.wide r.few, r.few)
+small_in_line : (n : ℕ) → n < 2 ^ 32 → in_line n ≡ n
+small_in_line n h = cond-true (ltb n (2 ^ 32)) n 4294967295 (lt-ltb n (2 ^ 32) h)
 
-  pub admitted_small : (x : Task) (index : ℕ) (sheet sheet' : List ℕ) (answer : Result (ℕ × Ticks) AdmitRefusal) (a : ℕ × Ticks) → AdmitStep mean bef r x sheet answer sheet' s
-      → admission_marked index answer ≡ Ok a → a.0 < 4294967296
-  admitted_small x index sheet sheet' (Ok d) a step h = omega (arith, few d.0 step.admits.preferred.there, ap (λ (z : ℕ × Ticks). z.0) (same d a h))
-  admitted_small x index sheet sheet' (Err e) a step h = absurd (ok_no_err a (record { index = index; number = number_of (admitting e) }) (sym h))
+module _ {J P : Type 0} (meaning : J → Meaning) (before : P → Relation) (r s : Table J P) where
+  pub admission_told : (task : Task) (index : ℕ) (label sheet sheet' : List ℕ) (answer : Result (ℕ × Ticks) AdmitRefusal) (q : Result (ℕ × Ticks) Refused) → AdmitStep meaning before r task sheet answer sheet' s → Sound s.lists
+      → IsMapped Admitting answer q → admission_line index label (carried index q) ≡ admit_line index label answer
+  admission_told task index label sheet sheet' (Ok d) q step sound is =
+      ap (λ o. admission_line index label (carried index o)) is ∙ ap (λ p. admitted_line index label p d.1.0) (small_in_line d.0 (omega (arith, step.admits.preferred.there, step.processors, sound.few)))
+  admission_told task index label sheet sheet' (Err e) (Ok d) step sound is = absurd is
+  admission_told task index label sheet sheet' (Err e) (Err f) step sound is = ap (λ g. admission_line index label (carried {A = ℕ × Ticks} index (Err g))) is
 
-  pub withdrawn_small : (n index : ℕ) (answer : Result (ℕ × Units × Ticks) WithdrawRefusal) (a : ℕ × Units × Ticks) → WithdrawStep mean bef r n answer s
-      → withdrawal_marked index answer ≡ Ok a → a.0 < 4294967296
-  withdrawn_small n index (Ok d) a step h = omega (arith, few d.0 step.withdraws.sits.there, ap (λ (z : ℕ × Units × Ticks). z.0) (same d a h))
-  withdrawn_small n index (Err e) a step h = absurd (ok_no_err a (record { index = index; number = number_of (withdrawing e) }) (sym h))
-
--- the line of what is carried is the answer's
-pub admission_said : (index : ℕ) (label : List ℕ) (answer : Result (ℕ × Ticks) AdmitRefusal) → admission_line index label (carried (admission_marked index answer)) ≡ admit_line index label answer
-admission_said index label (Ok a) = refl
-admission_said index label (Err e) = refl
-
-pub withdrawal_said : (index number : ℕ) (answer : Result (ℕ × Units × Ticks) WithdrawRefusal) → withdrawal_line index number (carried (withdrawal_marked index answer)) ≡ withdraw_line index number answer
-withdrawal_said index number (Ok a) = refl
-withdrawal_said index number (Err e) = refl
+  pub withdrawal_told : (n index : ℕ) (answer : Result (ℕ × Units × Ticks) WithdrawRefusal) (q : Result (ℕ × Units × Ticks) Refused) → WithdrawStep meaning before r n answer s → Sound s.lists
+      → IsMapped Withdrawing answer q → withdrawal_line index n (carried index q) ≡ withdraw_line index n answer
+  withdrawal_told n index (Ok d) q step sound is =
+      ap (λ o. withdrawal_line index n (carried index o)) is ∙ ap (λ p. withdrawn_line index n p) (small_in_line d.0 (omega (arith, step.withdraws.sits.there, step.processors, sound.few)))
+  withdrawal_told n index (Err e) (Ok d) step sound is = absurd is
+  withdrawal_told n index (Err e) (Err f) step sound is = ap (λ g. withdrawal_line index n (carried {A = ℕ × Units × Ticks} index (Err g))) is

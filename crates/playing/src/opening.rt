@@ -1,14 +1,14 @@
 // The beginning: the file is read, and its rack is made.
 ghost use Rattle.std.specs.Prelude.{◌≡◌, ◌≤◌};
-ghost use Rattle.playing.specs.declared.opening.Stop.TheVariants.{Fault};
-ghost use Rattle.playing.specs.Beginning.{stop_of, Begins, FaultWritten};
+ghost use Rattle.playing.specs.Beginning.{Begins, FaultWritten};
 
+use crate::fault::{PlayerFault, RefusedRecord, Stop};
 use crate::outcome::unreadable_line;
 use judges::Points;
-use lines::{PlayerFault, Refused, write_line};
+use lines::write_line;
 use preferences::Policy;
 use rack::Rack;
-use rackfile::{ReadError, Record, read_file};
+use rackfile::{RackFile, Record, read_file};
 use std::alloc::Global;
 
 /// A rack with the points judge and the file's policy, and the records that are to be played on it.
@@ -18,45 +18,20 @@ pub struct Play<'a> {
     pub records: Vec<Record<'a>>,
 }
 
-/// Why nothing is played: a fault, or there is no memory for the records.
-#[derive(Clone, Copy)]
-pub enum Stop {
-    Fault(PlayerFault),
-    Memory,
-}
-
-impl From<PlayerFault> for Stop {
-    ghost from_gives = { λ e r. r ≡ Fault e };
-
-    fn from(e: PlayerFault) -> Stop {
-        Stop::Fault(e)
-    }
-}
-
-impl From<ReadError> for Stop {
-    ghost from_gives = { λ e r. r ≡ stop_of e };
-
-    fn from(e: ReadError) -> Stop {
-        match e {
-            ReadError::Fault(fault) => Stop::Fault(PlayerFault::from(fault)),
-            ReadError::Memory => Stop::Memory,
-        }
-    }
-}
-
 /// Reads the file and makes its rack.
-pub fn begin<'a>(heap: Global, input: &'a [u8]) -> Result<Play<'a>, Stop>
+pub fn begin<'a>(alloc: Global, input: &'a [u8]) -> Result<Play<'a>, Stop>
     ensures { Begins input.now result }
 {
-    let file = read_file(heap, input)?;
-    match Rack::make(file.m as usize, Points, file.policy) {
-        Ok(rack) => Ok(Play {
-            rack,
-            records: file.records,
-        }),
+    let RackFile {
+        policy,
+        processors,
+        records,
+    } = read_file(alloc, input)?;
+    match Rack::make(usize::from(processors), Points, policy) {
+        Ok(rack) => Ok(Play { rack, records }),
         Err(blank) => {
-            let number = blank.refusal().number();
-            Err(Stop::Fault(PlayerFault::Turned(Refused { index: 0, number })))
+            let refusal = blank.refusal().into();
+            Err(PlayerFault::from(RefusedRecord { index: 0, refusal }).into())
         }
     }
 }

@@ -1,55 +1,26 @@
 // The rack's answers, carried into the player's own, and their lines.
 ghost use Rattle.std.specs.Prelude.{◌≡◌};
 ghost use Rattle.lines.specs.Texts.{seen_as};
-ghost use Rattle.playing.specs.Outcomes.{admission_marked, withdrawal_marked, place_written, unreadable, admission_line, withdrawal_line, Small};
+ghost use Rattle.playing.specs.Outcomes.{carried, in_line, unreadable, admission_line, withdrawal_line};
 
-use lines::{Line, PlayerFault, Refused};
+use crate::fault::{PlayerFault, RefusedRecord};
+use lines::Line;
 use rackfile::FileFault;
-use seating::{AdmitRefusal, WithdrawRefusal};
+use seating::Refused;
 use tasks::{Ticks, Units};
 
-// An admission's answer, a refusal marked with its record's index.
-pub(crate) fn mark_admission(
-    index: u32,
-    answer: Result<(usize, Ticks), AdmitRefusal>,
-) -> Result<(usize, Ticks), Refused>
-    ensures { result ≡ admission_marked index answer }
+// The rack's answer to the record of this index, its refusal carried into the player's fault.
+pub(crate) fn carried<T: Drop>(index: u32, answer: Result<T, Refused>) -> Result<T, PlayerFault>
+    ensures { result ≡ carried index answer }
 {
-    match answer {
-        Ok(granted) => Ok(granted),
-        Err(refusal) => Err(Refused {
-            index,
-            number: refusal.number(),
-        }),
-    }
+    Ok(answer.map_err(|refusal| RefusedRecord { index, refusal })?)
 }
 
-// A withdrawal's answer likewise.
-pub(crate) fn mark_withdrawal(
-    index: u32,
-    answer: Result<(usize, Units, Ticks), WithdrawRefusal>,
-) -> Result<(usize, Units, Ticks), Refused>
-    ensures { result ≡ withdrawal_marked index answer }
+// A number in the 32 bits of a line. One that is greater, which no file and no rack gives, is written as the greatest.
+fn in_line(n: usize) -> u32
+    ensures { result ≡ in_line n }
 {
-    match answer {
-        Ok(granted) => Ok(granted),
-        Err(refusal) => Err(Refused {
-            index,
-            number: refusal.number(),
-        }),
-    }
-}
-
-// The place of a fault in 32 bits.
-fn written_place(fault: FileFault) -> u32
-    ensures { result ≡ place_written fault }
-{
-    let place = fault.place();
-    if place < 4294967296 {
-        place as u32
-    } else {
-        4294967295
-    }
+    u32::try_from(n).unwrap_or(u32::MAX)
 }
 
 // The line of an unreadable file.
@@ -58,30 +29,29 @@ pub(crate) fn unreadable_line<'a>(fault: FileFault) -> Line<'a>
 {
     Line::Unreadable {
         number: fault.number(),
-        place: written_place(fault),
+        place: in_line(fault.place()),
     }
 }
 
-// The line of an admission.
+// The line of an admission. That of a withdrawal is not one with it: each of their variants is another, and a shared function would take four closures.
 pub(crate) fn admission_line<'a>(
     index: u32,
     label: &'a [u8],
     outcome: Result<(usize, Ticks), PlayerFault>,
 ) -> Line<'a>
-    requires { Small (λ a. a.0) outcome }
     ensures { seen_as result ≡ admission_line index label.now outcome }
 {
     match outcome {
         Ok((processor, instant)) => Line::Admitted {
             index,
             label,
-            processor: processor as u32,
+            processor: in_line(processor),
             instant: instant.0,
         },
         Err(PlayerFault::Turned(refused)) => Line::NotAdmitted {
             index: refused.index,
             label,
-            refusal: refused.number,
+            refusal: refused.refusal.number(),
         },
         Err(PlayerFault::Unread(fault)) => unreadable_line(fault),
     }
@@ -93,19 +63,18 @@ pub(crate) fn withdrawal_line<'a>(
     number: u32,
     outcome: Result<(usize, Units, Ticks), PlayerFault>,
 ) -> Line<'a>
-    requires { Small (λ a. a.0) outcome }
     ensures { seen_as result ≡ withdrawal_line index number outcome }
 {
     match outcome {
         Ok((processor, _, _)) => Line::Withdrawn {
             index,
             number,
-            processor: processor as u32,
+            processor: in_line(processor),
         },
         Err(PlayerFault::Turned(refused)) => Line::NotWithdrawn {
             index: refused.index,
             number,
-            refusal: refused.number,
+            refusal: refused.refusal.number(),
         },
         Err(PlayerFault::Unread(fault)) => unreadable_line(fault),
     }

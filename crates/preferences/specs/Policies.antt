@@ -1,5 +1,5 @@
 -- The policies: what each prefers, and its letter.
-use Rattle.std.specs.Prelude.{◌≡◌, ℕ}
+use Rattle.std.specs.Prelude.{◌≡◌, ℕ, cond, Some, None, Option, ◌==◌}
 use Rattle.preferences.specs.declared.policy.Policy.{Policy}
 use Rattle.preferences.specs.declared.policy.Policy.TheVariants.{First, Best, Worst}
 use Rattle.preferences.specs.Laws.{Relation}
@@ -15,6 +15,10 @@ abbrev pub letter_of : Policy → ℕ
 letter_of First = 70
 letter_of Best = 66
 letter_of Worst = 87
+
+-- the policy of a letter
+abbrev pub policy_named : ℕ → Option Policy
+policy_named c = cond (c == letter_of First) (Some First) (cond (c == letter_of Best) (Some Best) (cond (c == letter_of Worst) (Some Worst) None))
 
 -- a letter stands for one policy at most
 abbrev pub LettersDiffer : Type 0

@@ -1,5 +1,5 @@
 /// A processor as a preference sees it: its number, and its load before the newcomer, in millionths.
-#[derive(Clone, Copy)]
+#[derive(Clone, Copy, Debug, PartialEq, Eq)]
 pub struct Contender {
     pub number: usize,
     pub load: u64,

@@ -7,15 +7,15 @@ use super::contender::Contender;
 use super::preference::Preference;
 
 /// The smaller number goes first.
-#[derive(Clone, Copy)]
+#[derive(Clone, Copy, Debug, PartialEq, Eq)]
 pub struct FirstFit;
 
 /// The greater load goes first, and at equal loads the smaller number.
-#[derive(Clone, Copy)]
+#[derive(Clone, Copy, Debug, PartialEq, Eq)]
 pub struct BestFit;
 
 /// The smaller load goes first, and at equal loads the smaller number.
-#[derive(Clone, Copy)]
+#[derive(Clone, Copy, Debug, PartialEq, Eq)]
 pub struct WorstFit;
 
 fn is_first(one: Contender, other: Contender) -> bool
@@ -36,6 +36,7 @@ fn is_worst(one: Contender, other: Contender) -> bool
     one.load < other.load || (one.load == other.load && is_first(one, other))
 }
 
+// Each law is found anew at its impl, so that a relation that breaks it is refused there.
 impl Preference for FirstFit {
     ghost before = { λ _. first_fit };
 

@@ -8,5 +8,5 @@ mod preference;
 
 pub use contender::Contender;
 pub use fits::{BestFit, FirstFit, WorstFit};
-pub use policy::{Policy, letters_differ};
+pub use policy::{Policy, UnknownLetter, letters_differ};
 pub use preference::Preference;

@@ -1,6 +1,6 @@
 // The policies by name, for a rack whose preference is known only while the program runs.
-ghost use Rattle.std.specs.Prelude.{◌≡◌};
-ghost use Rattle.preferences.specs.Policies.{policy_before, letter_of, LettersDiffer};
+ghost use Rattle.std.specs.Prelude.{◌≡◌, ok_or};
+ghost use Rattle.preferences.specs.Policies.{policy_before, letter_of, policy_named, LettersDiffer};
 ghost use Rattle.preferences.specs.declared.policy.Policy.TheVariants.{First, Best, Worst};
 ghost use Rattle.preferences.specs.FitLaws.{first_laws, best_laws, worst_laws};
 
@@ -9,7 +9,7 @@ use super::fits::{BestFit, FirstFit, WorstFit};
 use super::preference::Preference;
 
 /// One of the three.
-#[derive(Clone, Copy)]
+#[derive(Clone, Copy, Debug, PartialEq, Eq)]
 pub enum Policy {
     First,
     Best,
@@ -29,6 +29,33 @@ impl Policy {
     }
 }
 
+impl From<Policy> for char {
+    ghost from_gives = { λ policy letter. letter ≡ letter_of policy };
+
+    fn from(policy: Policy) -> char {
+        policy.letter()
+    }
+}
+
+/// A letter that stands for no policy.
+#[derive(Clone, Copy, Debug, PartialEq, Eq)]
+pub struct UnknownLetter(pub char);
+
+impl TryFrom<char> for Policy {
+    type Error = UnknownLetter;
+
+    ghost try_from_gives = { λ letter r. r ≡ ok_or (policy_named letter) (record { 0 = letter }) };
+
+    fn try_from(letter: char) -> Result<Policy, UnknownLetter> {
+        match letter {
+            'F' => Ok(Policy::First),
+            'B' => Ok(Policy::Best),
+            'W' => Ok(Policy::Worst),
+            _ => Err(UnknownLetter(letter)),
+        }
+    }
+}
+
 impl Preference for Policy {
     ghost before = { policy_before };
 
@@ -44,8 +71,6 @@ impl Preference for Policy {
 }
 
 /// No two policies have the same letter.
-pub fn letters_differ() -> u8
+pub fn letters_differ()
     ensures { LettersDiffer }
-{
-    0
-}
+{}

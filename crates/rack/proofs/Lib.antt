@@ -1,8 +1,12 @@
 pub mod Shifting
-pub mod Shown
+pub mod Taken
+pub mod Joining
+pub mod Leaving
+pub mod Trying
 pub mod Renewings
-pub mod Candidates
 pub mod Bests
+pub mod Passing
+pub mod Soundness
+pub mod Spotting
 pub mod Granting
-pub mod Numbers
 pub mod Living

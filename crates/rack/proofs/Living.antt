@@ -1,74 +1,66 @@
 -- The claim over every run of a rack.
-use Rattle.std.proofs.Common.{◌≡◌, ℕ, List, [], ◌∷◌, replicate, refl, ap, ◌∙◌, subst, arith}
-use Rattle.judges.specs.Laws.{Meaning}
+use Rattle.std.proofs.Common.{◌≡◌, ℕ, ◌≤◌, List, [], ◌∷◌, replicate, sym, ap, subst}
+use Rattle.judges.specs.Laws.{Meaning, JudgeLaws}
 use Rattle.preferences.specs.Laws.{Relation}
+use Rattle.seating.specs.Seats.{Lists}
 use Rattle.book.specs.Book.{Book, Event, admits, withdraws, finds, loads, lists, after, Rules, AtMoment, ClaimFrom, MainClaim}
 use Rattle.book.proofs.Moments.{at_moment}
 use Rattle.book.proofs.Following.{written, of_call}
-use Rattle.rack.specs.declared.rack.Rack.{Rack}
-use Rattle.rack.specs.declared.table.Table.{Table}
-use Rattle.rack.specs.Taken.{first_lists}
-use Rattle.rack.specs.Steps.{lists_of, Unchanged, Step, Run}
-use Rattle.rack.proofs.Granting.{passed_limits}
-use Rattle.rack.proofs.Shown.{length-first, limits_at, good_at, order_at, seats_at}
+use Rattle.rack.specs.Table.{Table, Sound}
+use Rattle.rack.specs.Steps.{Step, Run}
+use Rattle.rack.proofs.Passing.{passing}
+use Rattle.rack.proofs.Soundness.{free_sound, admitted_sound, withdrawn_sound}
 
-pub unchanged : {J P : Type 0} (r : Rack J P) → Unchanged r r
-unchanged r = record { table = refl; processors = refl; judge = refl; preference = refl }
-
--- a rack whose fields are as they were has the same lists
-same_lists : {J P : Type 0} (r s : Rack J P) → Unchanged r s → lists_of s ≡ lists_of r
-same_lists r s u = ap (λ (t : Table). first_lists s.m t) u.table ∙ ap (λ (n : ℕ). first_lists n r.table) u.processors
-
--- by its own invariants, whatever has happened to it
-pub moment : {J P : Type 0} (r : Rack J P) → AtMoment (lists_of r)
-moment r =
-    let few = r.few in
-    let n = length-first r.table r.m r.wide few in
-    at_moment (lists_of r) (λ p lt.
-    record {
-      few = seats_at r.table r.m r.wide few p (omega arith);
-      limits = limits_at r.table r.m r.wide few p (omega arith);
-      order = order_at r.table r.m r.wide few p (omega arith);
-      instants = good_at r.table r.m r.wide few p (omega arith);
-    }) r.differ (passed_limits (lists_of r))
+moment : (b : Lists) → Sound b → AtMoment b
+moment b sound = at_moment b sound.kept_well sound.differ (λ x entries h. (passing b x entries h).limits)
 
 module _ {J P : Type 0} (mean : J → Meaning) (bef : P → Relation) where
-  -- a step of the rack follows the rules on its lists, and keeps the meanings
-  follows : (r s : Rack J P) (e : Event) → Step mean bef r e s → Rules (mean r.judge) (bef r.preference) (lists_of r) e (lists_of s)
-  follows r s (admits x sheet a sheet') t = t.admits
-  follows r s (withdraws n a) t = t.withdraws
-  follows r s (finds n a) t = (t.0, same_lists r s t.1)
-  follows r s (loads p a) t = (t.0, same_lists r s t.1)
-  follows r s (lists p a) t = (t.0, same_lists r s t.1)
+  -- a step of the rack follows the rules on its lists, keeps the meanings, and leaves a sound rack
+  record Follows (r s : Table J P) (e : Event) : Type 0 where
+    pub rules : Rules (mean r.judge) (bef r.preference) r.lists e s.lists
+    pub judge : mean s.judge ≡ mean r.judge
+    pub preference : bef s.preference ≡ bef r.preference
+    pub sound : Sound s.lists
 
-  judge_kept : (r s : Rack J P) (e : Event) → Step mean bef r e s → mean s.judge ≡ mean r.judge
-  judge_kept r s (admits x sheet a sheet') t = t.judge
-  judge_kept r s (withdraws n a) t = ap mean t.judge
-  judge_kept r s (finds n a) t = ap mean t.1.judge
-  judge_kept r s (loads p a) t = ap mean t.1.judge
-  judge_kept r s (lists p a) t = ap mean t.1.judge
+  asked : (r s : Table J P) (e : Event) → Sound r.lists → s ≡ r → (s.lists ≡ r.lists → Rules (mean r.judge) (bef r.preference) r.lists e s.lists) → Follows r s e
+  asked r s e sound is rules = record {
+    rules = rules (ap (λ (u : Table J P). u.lists) is);
+    judge = ap (λ (u : Table J P). mean u.judge) is;
+    preference = ap (λ (u : Table J P). bef u.preference) is;
+    sound = subst (λ (u : Table J P). Sound u.lists) (sym is) sound;
+  }
 
-  preference_kept : (r s : Rack J P) (e : Event) → Step mean bef r e s → bef s.preference ≡ bef r.preference
-  preference_kept r s (admits x sheet a sheet') t = t.preference
-  preference_kept r s (withdraws n a) t = ap bef t.preference
-  preference_kept r s (finds n a) t = ap bef t.1.preference
-  preference_kept r s (loads p a) t = ap bef t.1.preference
-  preference_kept r s (lists p a) t = ap bef t.1.preference
+  follows : ((j : J) → JudgeLaws (mean j)) → (r s : Table J P) (e : Event) → Sound r.lists → Step mean bef r e s → Follows r s e
+  follows laws r s (admits x sheet a sheet') sound t = record {
+    rules = t.admits;
+    judge = t.judge;
+    preference = t.preference;
+    sound = admitted_sound r.lists sound (mean r.judge) (laws r.judge) (bef r.preference) x sheet a sheet' s.lists t.admits;
+  }
+  follows laws r s (withdraws n a) sound t = record {
+    rules = t.withdraws;
+    judge = ap mean t.judge;
+    preference = ap bef t.preference;
+    sound = withdrawn_sound r.lists sound n a s.lists t.withdraws;
+  }
+  follows laws r s (finds n a) sound t = asked r s (finds n a) sound t.1 (λ e. (t.0, e))
+  follows laws r s (loads p a) sound t = asked r s (loads p a) sound t.1 (λ e. (t.0, e))
+  follows laws r s (lists p a) sound t = asked r s (lists p a) sound t.1 (λ e. (t.0, e))
 
   carried : (m₁ m₂ : Meaning) (f₁ f₂ : Relation) (b₁ b₂ : Book) (es : List Event) → m₁ ≡ m₂ → f₁ ≡ f₂ → b₁ ≡ b₂ → ClaimFrom m₁ f₁ b₁ es → ClaimFrom m₂ f₂ b₂ es
   carried m₁ m₂ f₁ f₂ b₁ b₂ es p q e h =
       subst (λ (b : Book). ClaimFrom m₂ f₂ b es) e (subst (λ (f : Relation). ClaimFrom m₂ f b₁ es) q (subst (λ (m : Meaning). ClaimFrom m f₁ b₁ es) p h))
 
-  pub claim_from : (es : List Event) (r : Rack J P) → Run mean bef r es → ClaimFrom (mean r.judge) (bef r.preference) (lists_of r) es
-  claim_from [] r run = moment r
-  claim_from (e ∷ es) r (s, t, run) =
-      let rules = follows r s e t in
+  claim_from : ((j : J) → JudgeLaws (mean j)) → (es : List Event) (r : Table J P) → Sound r.lists → Run mean bef r es → ClaimFrom (mean r.judge) (bef r.preference) r.lists es
+  claim_from laws [] r sound run = moment r.lists sound
+  claim_from laws (e ∷ es) r sound (s, t, run) =
       let m = mean r.judge in
-      let f = bef r.preference in (
-        moment r,
-        of_call m f (lists_of r) (lists_of s) r.differ e rules,
-        carried (mean s.judge) m (bef s.preference) f (lists_of s) (after m (lists_of r) e) es (judge_kept r s e t) (preference_kept r s e t) (written m f (lists_of r) (lists_of s) r.differ e rules) (claim_from es s run),
+      let f = bef r.preference in
+      let u = follows laws r s e sound t in (
+        moment r.lists sound,
+        of_call m f r.lists s.lists sound.differ e u.rules,
+        carried (mean s.judge) m (bef s.preference) f s.lists (after m r.lists e) es u.judge u.preference (written m f r.lists s.lists sound.differ e u.rules) (claim_from laws es s u.sound run),
       )
 
-  pub whole_life : (m : ℕ) (r : Rack J P) → lists_of r ≡ replicate m [] → (es : List Event) → Run mean bef r es → MainClaim (mean r.judge) (bef r.preference) m es
-  whole_life m r free es run = subst (λ (b : Book). ClaimFrom (mean r.judge) (bef r.preference) b es) free (claim_from es r run)
+  pub whole_life : ((j : J) → JudgeLaws (mean j)) → (m : ℕ) → 1 ≤ m → m ≤ 16 → (j : J) (p : P) (es : List Event) → Run mean bef (record { lists = replicate m []; judge = j; preference = p }) es → MainClaim (mean j) (bef p) m es
+  whole_life laws m some few j p es run = claim_from laws es _ (free_sound m some few) run

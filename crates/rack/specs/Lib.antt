@@ -1,5 +1,7 @@
-pub mod Taken
-pub mod Spots
+pub mod Table
+pub mod Renewed
 pub mod Trials
+pub mod Choices
+pub mod Spots
 pub mod Steps
 pub mod Always

@@ -8,82 +8,71 @@ use Rattle.judges.specs.Laws.{Meaning}
 use Rattle.preferences.specs.Laws.{Relation}
 use Rattle.seating.specs.declared.refusal.AdmitRefusal.{AdmitRefusal}
 use Rattle.seating.specs.declared.refusal.WithdrawRefusal.{WithdrawRefusal}
-use Rattle.seating.specs.Refusals.{making, number_of}
-use Rattle.seating.specs.Seats.{Lists, seated}
+use Rattle.seating.specs.declared.refused.Refused.TheVariants.{Making}
+use Rattle.seating.specs.Refusals.{number_of}
+use Rattle.seating.specs.Seats.{seated}
 use Rattle.seating.specs.Admission.{earlier, Admits}
 use Rattle.seating.specs.Withdrawal.{Withdraws}
 use Rattle.seating.specs.declared.seat.Seat.{Seat}
 use Rattle.seating.specs.declared.refusal.QuestionRefusal.{QuestionRefusal}
 use Rattle.seating.specs.Questions.{Finds, Loads, Shows}
 use Rattle.book.specs.Book.{Event, admits, withdraws, finds, loads, lists, MainClaim}
-use Rattle.rack.specs.declared.rack.Blank.{Blank}
-use Rattle.rack.specs.declared.rack.Rack.{Rack}
-use Rattle.rack.specs.Taken.{first_lists}
+use Rattle.rack.specs.declared.blank.Blank.{Blank}
+use Rattle.rack.specs.Table.{Table}
 
--- the table of a rack: the seats of its m processors
-abbrev pub lists_of : {J P : Type 0} → Rack J P → Lists
-lists_of r = first_lists r.m r.table
-
--- every field is as it was
-pub record Unchanged {J P : Type 0} (r s : Rack J P) : Type 0 where
-  pub table : s.table ≡ r.table
-  pub processors : s.m ≡ r.m
-  pub judge : s.judge ≡ r.judge
-  pub preference : s.preference ≡ r.preference
-
-module _ {J P : Type 0} (mean : J → Meaning) (bef : P → Relation) where
-  pub record AdmitStep (r : Rack J P) (x : Task) (sheet : List ℕ) (answer : Result (ℕ × Ticks) AdmitRefusal) (sheet' : List ℕ) (s : Rack J P) : Type 0 where
-    pub admits : Admits (mean r.judge) (bef r.preference) (lists_of r) x sheet answer sheet' (lists_of s)
-    pub processors : s.m ≡ r.m
-    pub judge : mean s.judge ≡ mean r.judge
-    pub preference : bef s.preference ≡ bef r.preference
-    -- a refusal leaves the whole table, counts and loads included
-    pub table_stays : (e : AdmitRefusal) → answer ≡ Err e → s.table ≡ r.table
+module _ {J P : Type 0} (meaning : J → Meaning) (before : P → Relation) where
+  pub record AdmitStep (r : Table J P) (x : Task) (sheet : List ℕ) (answer : Result (ℕ × Ticks) AdmitRefusal) (sheet' : List ℕ) (s : Table J P) : Type 0 where
+    pub admits : Admits (meaning r.judge) (before r.preference) r.lists x sheet answer sheet' s.lists
+    pub processors : length s.lists ≡ length r.lists
+    pub judge : meaning s.judge ≡ meaning r.judge
+    pub preference : before s.preference ≡ before r.preference
+    -- a refusal leaves all seats
+    pub lists_stay : (e : AdmitRefusal) → answer ≡ Err e → s.lists ≡ r.lists
     -- at a cause before 8 nobody is asked: the whole rack is as it was
-    pub untouched : (n : ℕ) → earlier (lists_of r) x (length sheet) ≡ Some n → Unchanged r s
+    pub untouched : (n : ℕ) → earlier r.lists x (length sheet) ≡ Some n → s ≡ r
 
-  pub record WithdrawStep (r : Rack J P) (n : ℕ) (answer : Result (ℕ × Units × Ticks) WithdrawRefusal) (s : Rack J P) : Type 0 where
-    pub withdraws : Withdraws (lists_of r) n answer (lists_of s)
-    pub processors : s.m ≡ r.m
+  pub record WithdrawStep (r : Table J P) (n : ℕ) (answer : Result (ℕ × Units × Ticks) WithdrawRefusal) (s : Table J P) : Type 0 where
+    pub withdraws : Withdraws r.lists n answer s.lists
+    pub processors : length s.lists ≡ length r.lists
     -- nobody is asked
     pub judge : s.judge ≡ r.judge
     pub preference : s.preference ≡ r.preference
     -- a refusal leaves the whole rack as it was
-    pub untouched : seated n (lists_of r) ≡ false → Unchanged r s
+    pub untouched : seated n r.lists ≡ false → s ≡ r
 
   -- THE STEP of a rack: the rack before, the call with its whole answer, the rack after. Each of the five calls ensures it at its own event; the questions change nothing.
-  abbrev pub Step : Rack J P → Event → Rack J P → Type 0
+  abbrev pub Step : Table J P → Event → Table J P → Type 0
   Step r (admits x sheet answer sheet') s = AdmitStep r x sheet answer sheet' s
   Step r (withdraws n answer) s = WithdrawStep r n answer s
-  Step r (finds n answer) s = Finds (lists_of r) n answer × Unchanged r s
-  Step r (loads p answer) s = Loads (lists_of r) p answer × Unchanged r s
-  Step r (lists p answer) s = Shows (lists_of r) p answer × Unchanged r s
+  Step r (finds n answer) s = Finds r.lists n answer × (s ≡ r)
+  Step r (loads p answer) s = Loads r.lists p answer × (s ≡ r)
+  Step r (lists p answer) s = Shows r.lists p answer × (s ≡ r)
 
   -- these calls, one after another, are all that happens to the rack
-  abbrev pub Run : Rack J P → List Event → Type 0
+  abbrev pub Run : Table J P → List Event → Type 0
   Run r [] = Unit {0}
-  Run r (e ∷ es) = (s : Rack J P) × Step r e s × Run s es
+  Run r (e ∷ es) = (s : Table J P) × Step r e s × Run s es
 
   -- a rack of m processors with all seats free; and THE CLAIM over its whole life, whatever is called and however often
-  pub record Makes (m : ℕ) (j : J) (p : P) (r : Rack J P) : Type 0 where
+  pub record Makes (m : ℕ) (j : J) (p : P) (r : Table J P) : Type 0 where
     pub some : 1 ≤ m
     pub few : m ≤ 16
-    pub free : lists_of r ≡ replicate m []
-    pub processors : r.m ≡ m
+    pub free : r.lists ≡ replicate m []
+    pub processors : length r.lists ≡ m
     pub judge : r.judge ≡ j
     pub preference : r.preference ≡ p
-    pub whole_life : (es : List Event) → Run r es → MainClaim (mean j) (bef p) m es
+    pub whole_life : (es : List Event) → Run r es → MainClaim (meaning j) (before p) m es
 
 -- a blank, exactly if m is 0 or above 16
 pub record Blanks {J P : Type 0} (m : ℕ) (j : J) (p : P) (blank : Blank J P) : Type 0 where
   pub cause : (m ≡ 0) ⊎ (16 < m)
-  pub refused : number_of (making blank.refusal) ≡ 1
+  pub refused : number_of (Making blank.refusal) ≡ 1
   pub judge : blank.judge ≡ j
   pub preference : blank.preference ≡ p
 
-abbrev pub MakeStep : {J P : Type 0} → (J → Meaning) → (P → Relation) → ℕ → J → P → Result (Rack J P) (Blank J P) → Type 0
-MakeStep mean bef m j p (Ok r) = Makes mean bef m j p r
-MakeStep mean bef m j p (Err blank) = Blanks m j p blank
+abbrev pub MakeStep : {J P : Type 0} → (J → Meaning) → (P → Relation) → ℕ → J → P → Result (Table J P) (Blank J P) → Type 0
+MakeStep meaning before m j p (Ok r) = Makes meaning before m j p r
+MakeStep meaning before m j p (Err blank) = Blanks m j p blank
 
 -- the seats shown, as a list
 abbrev pub shown : Result (Bor (List Seat)) QuestionRefusal → Result (List Seat) QuestionRefusal

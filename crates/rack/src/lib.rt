@@ -1,16 +1,15 @@
 // A rack of processors on which tasks are admitted and from which they are withdrawn.
 #![tactic(auto)]
 
-mod calls;
-mod choosing;
+mod admitting;
+mod blank;
+mod choice;
 mod processor;
 mod questions;
 mod rack;
 mod seat_table;
-mod table;
-mod tables;
 mod trial;
-mod trying;
+mod withdrawing;
 
-pub use calls::every_rack;
-pub use rack::{Blank, Rack};
+pub use blank::Blank;
+pub use rack::{Rack, every_rack};

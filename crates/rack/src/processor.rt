@@ -1,17 +1,106 @@
-ghost use Rattle.std.specs.Prelude.{◌≡◌, true, take};
-ghost use Rattle.tasks.specs.Limits.{all_within};
-ghost use Rattle.tasks.specs.Priority.{by_priority};
-ghost use Rattle.seating.specs.Seats.{tasks_of, load_of, all_keep_good};
+// One processor of a rack.
+ghost use Rattle.std.specs.Prelude.{◌≡◌, ◌+◌, ◌-◌, ◌<◌, ◌≤◌, true, [], length, nat_le, slice_index_or};
+ghost use Rattle.std.specs.List.{remove};
+ghost use Rattle.tasks.specs.Limits.{within_limits};
+ghost use Rattle.tasks.specs.Share.{share_of};
+ghost use Rattle.seating.specs.Seats.{tasks_of, load_of, no_seat};
 
 use super::seat_table::SeatTable;
+use super::trial::Trial;
+use seating::{Seat, has_room};
+use std::marker::Model;
+use tasks::Task;
 
-// A processor: its seats in priority order, each with a good instant, and the sum of their shares.
-#[derive(Clone, Copy)]
+/// The seats of a processor, each of a task within the limits, and the sum of their shares.
+#[derive(Default, Drop)]
 pub struct Processor {
-    pub(crate) table: SeatTable,
-    pub(crate) load: u64,
-    ghost sum: { load ≡ load_of (tasks_of (take table.taken table.seats)) },
-    ghost limits: { all_within (tasks_of (take table.taken table.seats)) ≡ true },
-    ghost order: { by_priority (tasks_of (take table.taken table.seats)) ≡ true },
-    ghost instants: { all_keep_good (take table.taken table.seats) ≡ true },
+    table: SeatTable,
+    load: u64,
+}
+
+impl Model for Processor {
+    ghost use Rattle.std.specs.Prelude.{List, ◌≡◌, true};
+    ghost use Rattle.tasks.specs.Limits.{all_within};
+    ghost use Rattle.seating.specs.declared.seat.Seat.{Seat};
+    ghost use Rattle.seating.specs.Seats.{tasks_of, load_of};
+
+    ghost Value = { List Seat };
+
+    ghost view = { λ p. p.table };
+
+    ghost invariant = { λ p. (p.load ≡ load_of (tasks_of p.table)) × (all_within (tasks_of p.table) ≡ true) };
+}
+
+// The share of a task within the limits.
+fn share(task: Task) -> u64
+    requires { within_limits task ≡ true }
+    ensures value { result ≡ share_of task }
+    ensures bound { result ≤ 1000000 }
+{
+    task.share().map_or(0, u64::from)
+}
+
+// A load with the share of one task more.
+fn more(load: u64, task: Task) -> u64
+    requires limits { within_limits task ≡ true }
+    requires small { load ≤ 32000000 }
+    ensures { result ≡ load + share_of task }
+{
+    load + share(task)
+}
+
+// A load without the share of a task.
+fn less(load: u64, task: Task) -> u64
+    requires limits { within_limits task ≡ true }
+    requires part { share_of task ≤ load }
+    ensures { result ≡ load - share_of task }
+{
+    load - share(task)
+}
+
+impl Processor {
+    ghost use Rattle.rack.specs.Trials.{IsTrialOf, SeatedWith};
+
+    /// The taken seats, lent.
+    pub(crate) fn seats(&self) -> &[Seat]
+        ensures list { result.now ≡ self.now }
+        ensures few { length result.now ≤ 32 }
+    {
+        self.table.as_slice()
+    }
+
+    /// Whether it has 32 tasks.
+    pub(crate) fn is_full(&self) -> bool
+        ensures { result ≡ nat_le 32 (length self.now) }
+    {
+        !has_room(self.seats())
+    }
+
+    /// The sum of the shares, in millionths.
+    pub(crate) fn load(&self) -> u64
+        ensures { result ≡ load_of (tasks_of self.now) }
+    {
+        self.load
+    }
+
+    /// The newcomer of a trial takes its seat, and each seat below it keeps the instant of the trial.
+    pub(crate) fn join(&mut self, newcomer: Task, trial: &Trial)
+        requires trial { IsTrialOf newcomer self.old trial.now }
+        requires limits { within_limits newcomer ≡ true }
+        ensures { SeatedWith newcomer trial.now.instants.items self.old self.new }
+    {
+        self.table.seat(newcomer, trial);
+        self.load = more(self.load, newcomer);
+    }
+
+    /// The seat at `at` leaves, and its share.
+    pub(crate) fn leave(&mut self, at: usize) -> Seat
+        requires { at < length self.old }
+        ensures list { self.new ≡ remove self.old at }
+        ensures value { result ≡ slice_index_or self.old at no_seat }
+    {
+        let seat = self.table.remove(at);
+        self.load = less(self.load, seat.task);
+        seat
+    }
 }

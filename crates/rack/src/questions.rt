@@ -1,63 +1,53 @@
 // The questions about a rack. They change nothing.
-ghost use Rattle.std.specs.Prelude.{◌≡◌, ◌<◌, ◌≤◌, [], length, nat_lt, slice_index_or};
-ghost use Rattle.seating.specs.Seats.{no_seat};
-ghost use Rattle.rack.specs.Taken.{all_lists};
+ghost use Rattle.std.specs.Prelude.{◌≡◌};
 ghost use Rattle.book.specs.Book.{finds, loads, lists};
+ghost use Rattle.rack.specs.Spots.{SpotOn};
+ghost use Rattle.rack.specs.Table.{Sound};
 ghost use Rattle.rack.specs.Steps.{Step, shown};
 
-use super::choosing::spot;
 use super::rack::Rack;
-use super::table::Table;
 use judges::Judge;
 use preferences::Preference;
-use seating::{QuestionRefusal, Seat};
-
-// The seat at `at` of processor p.
-fn seat_at(table: &Table, p: usize, at: usize) -> Seat
-    requires wide { length table.now.processors ≡ 16 }
-    requires there { p < 16 }
-    requires within { at < length (slice_index_or (all_lists table.now) p []) }
-    ensures { result ≡ slice_index_or (slice_index_or (all_lists table.now) p []) at no_seat }
-{
-    let seats = table.seats(p);
-    seats[at]
-}
-
-// Whether p is the number of one of m processors.
-fn is_there(p: usize, m: usize) -> bool
-    ensures { result ≡ nat_lt p m }
-{
-    p < m
-}
+use seating::{QuestionRefusal, Seat, position};
 
 impl<J: Judge, P: Preference> Rack<J, P> {
     /// The seat of the task of this number, and its processor.
     pub fn find(&self, number: u32) -> Option<(Seat, usize)>
-        ensures { Step J.meaning P.before self.now (finds number result) self.now }
+        ensures step { Step J.meaning P.before self.now (finds number result) self.now }
+        ensures sound { Sound self.now.lists }
     {
-        let Some((p, at)) = spot(&self.table, self.m, number) else {
-            return None;
-        };
-        Some((seat_at(&self.table, p, at), p))
+        let (p, at) = self.spot(number)?;
+        Some((self.processors[p].seats()[at], p))
     }
 
     /// The load of processor p: the sum of its tasks' shares, in millionths.
     pub fn load(&self, p: usize) -> Result<u64, QuestionRefusal>
-        ensures { Step J.meaning P.before self.now (loads p result) self.now }
+        ensures step { Step J.meaning P.before self.now (loads p result) self.now }
+        ensures sound { Sound self.now.lists }
     {
-        if !is_there(p, self.m) {
-            return Err(QuestionRefusal::NoProcessor);
-        }
-        Ok(self.table.load(p))
+        let processor = self.processors.get(p).ok_or(QuestionRefusal::NoProcessor)?;
+        Ok(processor.load())
     }
 
-    /// The taken seats of processor p, as a part of the table.
+    /// The taken seats of processor p, lent.
     pub fn seats(&self, p: usize) -> Result<&[Seat], QuestionRefusal>
-        ensures { Step J.meaning P.before self.now (lists p (shown result)) self.now }
+        ensures step { Step J.meaning P.before self.now (lists p (shown result)) self.now }
+        ensures sound { Sound self.now.lists }
     {
-        if !is_there(p, self.m) {
-            return Err(QuestionRefusal::NoProcessor);
+        let processor = self.processors.get(p).ok_or(QuestionRefusal::NoProcessor)?;
+        Ok(processor.seats())
+    }
+
+    // Where a task of this number sits: its processor and its place there.
+    pub(crate) fn spot(&self, number: u32) -> Option<(usize, usize)>
+        ensures spot { SpotOn number self.now.lists result }
+        ensures sound { Sound self.now.lists }
+    {
+        for (p, processor) in self.processors.iter().enumerate() {
+            if let Some(at) = position(processor.seats(), number) {
+                return Some((p, at));
+            }
         }
-        Ok(self.table.seats(p))
+        None
     }
 }

@@ -1,27 +1,78 @@
-ghost use Rattle.std.specs.Prelude.{◌≡◌, ◌≤◌, true, length};
-ghost use Rattle.seating.specs.Seats.{numbers, all_differ};
-ghost use Rattle.rack.specs.Taken.{first_lists};
+// A rack, and how it is made.
+ghost use Rattle.std.specs.Prelude.{◌≡◌, ◌&&◌, nat_le, ◌≤◌, [], replicate};
+ghost use Rattle.rack.specs.Always.{Always};
 
-use super::table::Table;
+use super::blank::Blank;
+use super::processor::Processor;
+use arrayvec::ArrayVec;
+use judges::Judge;
+use preferences::Preference;
 use seating::MakeRefusal;
+use std::marker::Model;
 
-/// A rack of m processors, the first m of the table, with the judge and the preference that it was made with.
+/// A rack of 1 to 16 processors, with the judge and the preference that it was made with.
 #[derive(Drop)]
 pub struct Rack<J, P> {
-    pub(crate) table: Table,
-    pub(crate) m: usize,
+    pub(crate) processors: ArrayVec<Processor, 16>,
     pub(crate) judge: J,
     pub(crate) preference: P,
-    ghost some: { 1 ≤ m },
-    ghost few: { m ≤ 16 },
-    ghost wide: { length table.processors ≡ 16 },
-    ghost differ: { all_differ (numbers (first_lists m table)) ≡ true },
 }
 
-/// What a refused making hands over: no processors, but the judge and the preference back.
-#[derive(Drop)]
-pub struct Blank<J, P> {
-    pub(crate) refusal: MakeRefusal,
-    pub(crate) judge: J,
-    pub(crate) preference: P,
+impl<J, P> Model for Rack<J, P> {
+    ghost use Rattle.rack.specs.Table.{Table, Sound};
+
+    ghost Value = { Table J P };
+
+    ghost view = { λ r. record { lists = r.processors.items; judge = r.judge; preference = r.preference } };
+
+    ghost invariant = { λ r. Sound r.processors.items };
+}
+
+// Whether a rack has so many processors.
+fn may_have(processors: usize) -> bool
+    ensures { result ≡ (nat_le 1 processors && nat_le processors 16) }
+{
+    1 <= processors && processors <= 16
+}
+
+// So many processors with all seats free.
+fn free(processors: usize) -> ArrayVec<Processor, 16>
+    requires { processors ≤ 16 }
+    ensures { result.items ≡ replicate processors [] }
+{
+    let mut free = ArrayVec::new();
+    for _ in 0..processors {
+        free.push(Processor::default());
+    }
+    free
+}
+
+impl<J: Judge, P: Preference> Rack<J, P> {
+    ghost use Rattle.rack.specs.Steps.{MakeStep};
+
+    /// A rack of so many processors with all seats free. It is refused if that is 0 or above 16.
+    pub fn make(processors: usize, judge: J, preference: P) -> Result<Self, Blank<J, P>>
+        ensures { MakeStep J.meaning P.before processors judge preference result }
+    {
+        if !may_have(processors) {
+            return Err(Blank {
+                refusal: MakeRefusal::ProcessorCount,
+                judge,
+                preference,
+            });
+        }
+        Ok(Rack {
+            processors: free(processors),
+            judge,
+            preference,
+        })
+    }
+}
+
+/// What holds of every rack at every moment, and that each call has exactly one answer.
+pub fn every_rack<J: Judge, P: Preference>(rack: &Rack<J, P>)
+    ensures { Always J.meaning P.before rack.now }
+{
+    // With a field in use the rack's invariant is known.
+    let _ = &rack.processors;
 }

@@ -4,8 +4,8 @@ use Rattle.std.proofs.lemmas.List.Elements.{All-drop}
 use Rattle.std.proofs.lemmas.Bool.{and_parts, cond-false, ltb-false, le-ltb, eqb-true, not-false, not_from_true, cases_Bool}
 use Rattle.preferences.specs.declared.policy.Policy.{Policy}
 use Rattle.preferences.specs.declared.policy.Policy.TheVariants.{First, Best, Worst}
-use Rattle.preferences.specs.Policies.{letter_of}
-use Rattle.rackfile.specs.Files.{is_mark, is_version, policy_named, processors_allowed, header_fault, count_in}
+use Rattle.preferences.specs.Policies.{letter_of, policy_named}
+use Rattle.rackfile.specs.Files.{is_mark, is_version, processors_allowed, header_fault, count_in}
 use Rattle.rackfile.specs.Format.{header_bytes}
 use Rattle.rackfile.specs.Exact.{AreBytes}
 use Rattle.rackfile.proofs.Undoing.{cond-none}
@@ -23,7 +23,7 @@ letter_named c p e = elim (cases_Bool (eqb c 70)) [
     | inl k ↦ eqb-true c 66 k ∙ ap letter_of (some_back Best p (sym (second c h k) ∙ e))
     | inr k ↦ elim (cases_Bool (eqb c 87)) [
       | inl m ↦ eqb-true c 87 m ∙ ap letter_of (some_back Worst p (sym (third c h k m) ∙ e))
-      | inr m ↦ let f = sym (fourth c h k m) ∙ e in let z : ◌≡◌ {A = ℕ} 0 1 = cc in absurd (omega arith)
+      | inr m ↦ let f = sym (fourth c h k m) ∙ e in absurd cc
     ]
   ]
 ]

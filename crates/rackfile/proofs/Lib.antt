@@ -1,4 +1,3 @@
-pub mod Fields
 pub mod Sequences
 pub mod Undoing
 pub mod Records

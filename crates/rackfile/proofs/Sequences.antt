@@ -12,10 +12,6 @@ abbrev pub prepend : List Seen → Run → Run
 prepend xs (Ok p) = Ok (xs ++ p.0, p.1)
 prepend xs (Err e) = Err e
 
-pub prepend_nil : (r : Run) → r ≡ prepend [] r
-prepend_nil (Ok p) = refl
-prepend_nil (Err e) = refl
-
 push : (xs : List Seen) (v : Seen) (r : Run) → prepend xs (next r (λ y. Ok (v ∷ y.0, y.1))) ≡ prepend (xs ++ v ∷ []) r
 push xs v (Ok p) = ap (λ (l : List Seen). Ok (l, p.1)) (sym (append_assoc xs (v ∷ []) p.0))
 push xs v (Err e) = refl

@@ -4,13 +4,15 @@ use Rattle.std.proofs.lemmas.List.{append_assoc, append-nil, length-append, leng
 use Rattle.std.proofs.lemmas.List.Elements.{All-from_get_or}
 use Rattle.std.proofs.lemmas.Bool.{and_parts, and_from, cond-false, ltb-false, le-ltb, eqb-true}
 use Rattle.preferences.specs.declared.policy.Policy.{Policy}
+use Rattle.preferences.specs.Policies.{policy_named}
 use Rattle.rackfile.specs.declared.fault.RecordFault.{RecordFault}
 use Rattle.rackfile.specs.declared.fault.FileFault.{FileFault}
+use Rattle.rackfile.specs.Reading.{too_long}
 use Rattle.rackfile.specs.Records.{Seen, admits, withdraws, next, read_record}
-use Rattle.rackfile.specs.Files.{File, policy_named, header_fault, count_in, read_records, too_long, with_records, with_header, reading}
+use Rattle.rackfile.specs.Files.{File, header_fault, count_in, read_records, with_records, with_header, reading}
 use Rattle.rackfile.specs.Format.{header_bytes, record_bytes, records_bytes, record_allowed, all_allowed, all_placed, Stands}
 use Rattle.rackfile.specs.Exact.{AreBytes, ReadsWhatStands, OneFile, NotBoth}
-use Rattle.rackfile.proofs.Undoing.{Went, next_ok, cond-right, cond-wrong}
+use Rattle.rackfile.proofs.Undoing.{ok_same, Went, next_ok, cond-right, cond-wrong}
 use Rattle.rackfile.proofs.Records.{record_back, record_read}
 use Rattle.rackfile.proofs.Headers.{header_back, header_read, count_read, named}
 
@@ -20,12 +22,9 @@ pub record RecordsBack (at n : ℕ) (s : List ℕ) (vs : List Seen) (r : List �
   pub allowed : all_allowed vs ≡ true
   pub placed : all_placed at vs ≡ true
 
-run_back : (x y : List Seen × List ℕ) → ◌≡◌ {A = Result (List Seen × List ℕ) RecordFault} (Ok x) (Ok y) → x ≡ y
-run_back x y h = cc
-
 records_back : (whole at n : ℕ) (s : List ℕ) (vs : List Seen) (r : List ℕ) → whole ≡ at + length s → AreBytes s → read_records whole n s ≡ Ok (vs, r) → RecordsBack at n s vs r
 records_back whole at zero s vs r here b e =
-    let same = run_back ([], s) (vs, r) e in
+    let same = ok_same ([], s) (vs, r) e in
     subst (λ x. RecordsBack at 0 s x r) (ap (λ z. z.0) same) (record { bytes = ap (λ z. z.1) same; count = refl; allowed = refl; placed = refl })
 records_back whole at (suc n) s vs r here b e = go (next_ok (read_record whole s) _ (vs, r) e) (λ t ws q h k. records_back whole (at + length t) n q ws r h k)
   where
@@ -37,7 +36,7 @@ records_back whole at (suc n) s vs r here b e = go (next_ok (read_record whole s
         let one = record_back whole at s v t here b w.read in
         let w2 = next_ok (read_records whole n t) _ (vs, r) w.on in
         let ws = w2.value.0 in
-        let same = run_back (v ∷ ws, w2.value.1) (vs, r) w2.on in
+        let same = ok_same (v ∷ ws, w2.value.1) (vs, r) w2.on in
         let ev : v ∷ ws ≡ vs = ap (λ z. z.0) same in
         let er : w2.value.1 ≡ r = ap (λ z. z.1) same in
         let long = ap length one.bytes ∙ length-append (record_bytes v) t in
@@ -49,9 +48,6 @@ records_back whole at (suc n) s vs r here b e = go (next_ok (read_record whole s
           placed = one.placed ws rest.placed;
         })
 
-file_back : (x y : File) → ◌≡◌ {A = Result File FileFault} (Ok x) (Ok y) → x ≡ y
-file_back x y h = cc
-
 -- what was read stands there
 pub stands : (input : List ℕ) (f : File) → AreBytes input → reading input ≡ Ok f → Stands input f
 stands input f b e =
@@ -59,10 +55,10 @@ stands input f b e =
     head (header_fault (length input) input) refl c.1 (ltb-false 65536 (length input) c.0)
   where
     last : (p : Policy) → policy_named (get_or input 5 0) ≡ Some p → header_fault (length input) input ≡ None → (run : Result (List Seen × List ℕ) RecordFault) → read_records (length input) (count_in input) (drop 9 input) ≡ run → with_records (length input) (Some p) (get_or input 6 0) run ≡ Ok f → length input ≤ 65536 → Stands input f
-    last p named_by right (Err g) run h short = let z : ◌≡◌ {A = ℕ} 0 1 = cc in absurd (omega arith)
+    last p named_by right (Err g) run h short = absurd cc
     last p named_by right (Ok x) run h short =
-        let d = cond-right (eqb (length x.1) 0) (Ok (record { policy = p; m = get_or input 6 0; records = x.0 })) _ f h in
-        let same = file_back (record { policy = p; m = get_or input 6 0; records = x.0 }) f d.1 in
+        let d = cond-right (eqb (length x.1) 0) (Ok (record { policy = p; processors = get_or input 6 0; records = x.0 })) _ f h in
+        let same = ok_same (record { policy = p; processors = get_or input 6 0; records = x.0 }) f d.1 in
         let top = header_back (length input) input p b right named_by in
         let nothing = nil_from_length x.1 (eqb-true (length x.1) 0 d.0) in
         let rs = records_back (length input) 9 (count_in input) (drop 9 input) x.0 x.1 (omega (arith, length-drop 9 input, top.long)) top.rest run in
@@ -76,11 +72,11 @@ stands input f b e =
         })
 
     middle : (o : Option Policy) → policy_named (get_or input 5 0) ≡ o → header_fault (length input) input ≡ None → with_records (length input) o (get_or input 6 0) (read_records (length input) (count_in input) (drop 9 input)) ≡ Ok f → length input ≤ 65536 → Stands input f
-    middle None q right h short = let z : ◌≡◌ {A = ℕ} 0 1 = cc in absurd (omega arith)
+    middle None q right h short = absurd cc
     middle (Some p) q right h short = last p q right (read_records (length input) (count_in input) (drop 9 input)) refl h short
 
     head : (o : Option FileFault) → header_fault (length input) input ≡ o → with_header input o ≡ Ok f → length input ≤ 65536 → Stands input f
-    head (Some g) q h short = let z : ◌≡◌ {A = ℕ} 0 1 = cc in absurd (omega arith)
+    head (Some g) q h short = absurd cc
     head None q h short = middle (policy_named (get_or input 5 0)) refl q h short
 
 placed_after : (at : ℕ) (v : Seen) (vs : List Seen) → all_placed at (v ∷ vs) ≡ true → all_placed (at + length (record_bytes v)) vs ≡ true
@@ -108,7 +104,7 @@ records_read whole at (v ∷ vs) r a p here = go (records_read whole (at + lengt
 pub reads : (input : List ℕ) (f : File) → Stands input f → reading input ≡ Ok f
 reads input f s =
     let p = f.policy in
-    let m = f.m in
+    let m = f.processors in
     let vs = f.records in
     let top = header_bytes p m (length vs) in
     let body = records_bytes vs in
@@ -128,10 +124,10 @@ pub reads_what_stands : ReadsWhatStands
 reads_what_stands input f b = (reads input f, stands input f b)
 
 pub one_file : OneFile
-one_file input f g b s t = file_back f g (sym (reads input f s) ∙ reads input g t)
+one_file input f g b s t = ok_same f g (sym (reads input f s) ∙ reads input g t)
 
 pub not_both : NotBoth
-not_both input f e b s h = let q = sym (reads input f s) ∙ h in let z : ◌≡◌ {A = ℕ} 0 1 = cc in omega arith
+not_both input f e b s h = let q = sym (reads input f s) ∙ h in cc
 
 pub bytes_from : (s : List ℕ) → ((i : ℕ) → get_or s i 0 < 256) → AreBytes s
 bytes_from s h = All-from_get_or (λ z. z < 256) s 0 (λ i lt. h i)

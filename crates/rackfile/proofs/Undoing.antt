@@ -8,6 +8,10 @@ use Rattle.rackfile.specs.Records.{then, next}
 use Rattle.rackfile.specs.Format.{word}
 use Rattle.rackfile.specs.Exact.{AreBytes}
 
+-- two values that went through alike are the same
+pub ok_same : {A E : Type 0} (x y : A) → ◌≡◌ {A = Result A E} (Ok x) (Ok y) → x ≡ y
+ok_same x y e = cc
+
 -- a value that was read on went through
 pub record Went {A B E F : Type 0} (r : Result A E) (k : A → Result B F) (y : B) : Type 0 where
   pub value : A
@@ -16,26 +20,26 @@ pub record Went {A B E F : Type 0} (r : Result A E) (k : A → Result B F) (y : 
 
 pub then_ok : {A B E F : Type 0} (up : E → F) (r : Result A E) (k : A → Result B F) (y : B) → then up r k ≡ Ok y → Went r k y
 then_ok up (Ok x) k y e = record { value = x; read = refl; on = e }
-then_ok up (Err f) k y e = let z : ◌≡◌ {A = ℕ} 0 1 = cc in absurd (omega arith)
+then_ok up (Err f) k y e = absurd cc
 
 pub next_ok : {A B E : Type 0} (r : Result A E) (k : A → Result B E) (y : B) → next r k ≡ Ok y → Went r k y
 next_ok (Ok x) k y e = record { value = x; read = refl; on = e }
-next_ok (Err f) k y e = let z : ◌≡◌ {A = ℕ} 0 1 = cc in absurd (omega arith)
+next_ok (Err f) k y e = absurd cc
 
 pub field_ok : {A : Type 0} (whole : ℕ) (o : Option (A × List ℕ)) (x : A × List ℕ) → field whole o ≡ Ok x → o ≡ Some x
 field_ok whole (Some y) x e = let p : y ≡ x = cc in ap (λ z. Some z) p
-field_ok whole None x e = let z : ◌≡◌ {A = ℕ} 0 1 = cc in absurd (omega arith)
+field_ok whole None x e = absurd cc
 
 pub cond-right : {A E : Type 0} (b : Bool) (p : Result A E) (f : E) (y : A) → cond b p (Err f) ≡ Ok y → (b ≡ true) × (p ≡ Ok y)
 cond-right true p f y e = (refl, e)
-cond-right false p f y e = let z : ◌≡◌ {A = ℕ} 0 1 = cc in absurd (omega arith)
+cond-right false p f y e = absurd cc
 
 pub cond-wrong : {A E : Type 0} (b : Bool) (f : E) (q : Result A E) (y : A) → cond b (Err f) q ≡ Ok y → (b ≡ false) × (q ≡ Ok y)
-cond-wrong true f q y e = let z : ◌≡◌ {A = ℕ} 0 1 = cc in absurd (omega arith)
+cond-wrong true f q y e = absurd cc
 cond-wrong false f q y e = (refl, e)
 
 pub cond-none : {A : Type 0} (b : Bool) (f : A) (q : Option A) → cond b (Some f) q ≡ None → (b ≡ false) × (q ≡ None)
-cond-none true f q e = let z : ◌≡◌ {A = ℕ} 0 1 = cc in absurd (omega arith)
+cond-none true f q e = absurd cc
 cond-none false f q e = (refl, e)
 
 some_back : {A B : Type 0} (x y : A × B) → Some x ≡ Some y → x ≡ y
@@ -43,7 +47,7 @@ some_back x y e = cc
 
 -- a field and the bytes that it was
 pub byte_back : (s : List ℕ) (a : ℕ) (r : List ℕ) → AreBytes s → take_byte s ≡ Some (a, r) → (s ≡ a ∷ r) × AreBytes r
-byte_back [] a r b e = let z : ◌≡◌ {A = ℕ} 0 1 = cc in absurd (omega arith)
+byte_back [] a r b e = absurd cc
 byte_back (x ∷ s) a r b e =
     let both = some_back (x, s) (a, r) e in
     let p : x ≡ a = ap (λ z. z.0) both in
@@ -56,10 +60,10 @@ pub record WordBack (s : List ℕ) (n : ℕ) (r : List ℕ) : Type 0 where
   pub rest : AreBytes r
 
 pub word_back : (s : List ℕ) (n : ℕ) (r : List ℕ) → AreBytes s → take_word s ≡ Some (n, r) → WordBack s n r
-word_back [] n r b e = let z : ◌≡◌ {A = ℕ} 0 1 = cc in absurd (omega arith)
-word_back (a ∷ []) n r b e = let z : ◌≡◌ {A = ℕ} 0 1 = cc in absurd (omega arith)
-word_back (a ∷ (b ∷ [])) n r h e = let z : ◌≡◌ {A = ℕ} 0 1 = cc in absurd (omega arith)
-word_back (a ∷ (b ∷ (c ∷ []))) n r h e = let z : ◌≡◌ {A = ℕ} 0 1 = cc in absurd (omega arith)
+word_back [] n r b e = absurd cc
+word_back (a ∷ []) n r b e = absurd cc
+word_back (a ∷ (b ∷ [])) n r h e = absurd cc
+word_back (a ∷ (b ∷ (c ∷ []))) n r h e = absurd cc
 word_back (a ∷ (b ∷ (c ∷ (d ∷ s)))) n r h e =
     let both = some_back (a * 16777216 + b * 65536 + c * 256 + d, s) (n, r) e in
     let p : a * 16777216 + b * 65536 + c * 256 + d ≡ n = ap (λ z. z.0) both in
@@ -88,7 +92,7 @@ pub part_back : (n : ℕ) (s l r : List ℕ) → AreBytes s → take_part n s �
 part_back n s l r b e = go (leb n (length s)) refl e
   where
     go : (t : Bool) → leb n (length s) ≡ t → cond {A = Option (List ℕ × List ℕ)} t (Some (take n s, drop n s)) None ≡ Some (l, r) → PartBack n s l r
-    go false q f = let z : ◌≡◌ {A = ℕ} 0 1 = cc in absurd (omega arith)
+    go false q f = absurd cc
     go true q f =
         let both = some_back (take n s, drop n s) (l, r) f in
         let p : take n s ≡ l = ap (λ z. z.0) both in

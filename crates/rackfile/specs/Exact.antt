@@ -16,7 +16,7 @@ AreBytes input = All (λ b. b < 256) input
 abbrev pub FileRead : List ℕ → Result RackFile ReadError → Type 0
 FileRead input (Ok f) = Stands input (file_seen f)
 FileRead input (Err (Fault f)) = reading input ≡ Err f
-FileRead input (Err Memory) = Unit {0}
+FileRead input (Err (Memory e)) = Unit {0}
 
 -- bytes are read as a file exactly when they stand for it
 abbrev pub ReadsWhatStands : Type 0
@@ -32,7 +32,7 @@ NotBoth = (input : List ℕ) (f : File) (e : FileFault) → AreBytes input → S
 
 -- every list of records within the limits has bytes that stand for it
 abbrev pub EveryFileHasBytes : Type 0
-EveryFileHasBytes = (f : File) → processors_allowed f.m ≡ true → length f.records < 2 ^ 16 → all_allowed f.records ≡ true → all_placed 9 f.records ≡ true
+EveryFileHasBytes = (f : File) → processors_allowed f.processors ≡ true → length f.records < 2 ^ 16 → all_allowed f.records ≡ true → all_placed 9 f.records ≡ true
     → length (file_bytes f) ≤ 65536 → Stands (file_bytes f) f
 
 -- the label that a record shows is that very part of the input, at its place

@@ -1,21 +1,20 @@
 -- The file, read from the front.
 use Rattle.std.specs.Prelude.{◌≡◌, ℕ, zero, suc, ◌+◌, ◌*◌, Bool, cond, not, ◌&&◌, List, [], ◌∷◌, map, length, drop, is_some, Some, None, Ok, Err, vec_items, Option, Result, Vec, ◌==◌, nat_le, nat_lt, slice_index}
-use Rattle.std.specs.Borrow.{Bor}
 use Rattle.std.specs.declared.alloc.Global.{Global}
 use Rattle.preferences.specs.declared.policy.Policy.{Policy}
-use Rattle.preferences.specs.declared.policy.Policy.TheVariants.{First, Best, Worst}
-use Rattle.preferences.specs.Policies.{letter_of}
+use Rattle.preferences.specs.Policies.{policy_named}
 use Rattle.rackfile.specs.declared.fault.BytesFault.TheVariants.{TooLong, Cut, Trailing}
 use Rattle.rackfile.specs.declared.fault.RecordFault.{RecordFault}
 use Rattle.rackfile.specs.declared.fault.RecordFault.TheVariants.{Bytes}
 use Rattle.rackfile.specs.declared.fault.FileFault.{FileFault}
 use Rattle.rackfile.specs.declared.fault.FileFault.TheVariants as fault
 use Rattle.rackfile.specs.declared.record.Record.{Record}
+use Rattle.rackfile.specs.declared.bytes.Reader.{Reader}
 use Rattle.rackfile.specs.declared.file.Header.{Header}
 use Rattle.rackfile.specs.declared.file.RackFile.{RackFile}
 use Rattle.rackfile.specs.declared.file.ReadError.{ReadError}
 use Rattle.rackfile.specs.declared.file.ReadError.TheVariants as error
-use Rattle.rackfile.specs.Reading.{place_in}
+use Rattle.rackfile.specs.Reading.{place_in, too_long}
 use Rattle.rackfile.specs.Records.{Seen, seen_as, next, read_record}
 
 -- the letters RAK
@@ -26,19 +25,15 @@ is_mark a b c = a == 82 && (b == 65 && c == 75)
 abbrev pub is_version : ℕ → ℕ → Bool
 is_version high low = high * 256 + low == 1
 
--- the policy of a letter
-abbrev pub policy_named : ℕ → Option Policy
-policy_named c = cond (c == letter_of First) (Some First) (cond (c == letter_of Best) (Some Best) (cond (c == letter_of Worst) (Some Worst) None))
-
 -- a rack has 1 to 16 processors
 abbrev pub processors_allowed : ℕ → Bool
-processors_allowed m = nat_le 1 m && nat_le m 16
+processors_allowed n = nat_le 1 n && nat_le n 16
 
 abbrev pub cut : ℕ → FileFault
 cut whole = fault.Record (Bytes (Cut whole))
 
 -- What is wrong with a header, or none: its fields in turn, each first for whether it is whole and then for what it holds.
--- They are the mark (3 bytes), the version (2), the policy letter, m, and the count of records (2).
+-- They are the mark (3 bytes), the version (2), the policy letter, the number of processors, and the count of records (2).
 abbrev pub header_fault : ℕ → List ℕ → Option FileFault
 header_fault whole s =
     cond (nat_lt (length s) 3) (Some (cut whole))
@@ -55,45 +50,42 @@ header_fault whole s =
 abbrev pub count_in : List ℕ → ℕ
 count_in s = slice_index s 7 * 256 + slice_index s 8
 
-pub record HeaderOf (whole : ℕ) (s : List ℕ) (h : Header) : Type 0 where
+pub record HeaderOf (whole : ℕ) (s : List ℕ) (h : Header) (rest : List ℕ) : Type 0 where
   pub right : header_fault whole s ≡ None
   pub its_policy : policy_named (slice_index s 5) ≡ Some h.policy
-  pub its_m : h.m ≡ slice_index s 6
+  pub its_processors : h.processors ≡ slice_index s 6
   pub its_count : h.count ≡ count_in s
-  pub its_rest : h.rest.now ≡ drop 9 s
+  pub its_rest : rest ≡ drop 9 s
 
-abbrev pub ReadsHeader : ℕ → List ℕ → Result Header FileFault → Type 0
-ReadsHeader whole s (Ok h) = HeaderOf whole s h
-ReadsHeader whole s (Err f) = header_fault whole s ≡ Some f
+abbrev pub ReadsHeader : Reader → Reader → Result Header FileFault → Type 0
+ReadsHeader old new (Ok h) = HeaderOf old.whole old.left.now h new.left.now × (new.whole ≡ old.whole)
+ReadsHeader old new (Err f) = header_fault old.whole old.left.now ≡ Some f
 
 -- so many records, one behind the other, and what is left
 abbrev pub read_records : ℕ → ℕ → List ℕ → Result (List Seen × List ℕ) RecordFault
 read_records whole zero s = Ok ([], s)
 read_records whole (suc n) s = next (read_record whole s) (λ x. next (read_records whole n x.1) (λ y. Ok (x.0 ∷ y.0, y.1)))
 
-abbrev pub ReadsRecords : Result (Vec Record Global × Bor (List ℕ)) ReadError → Result (List Seen × List ℕ) RecordFault → Type 0
-ReadsRecords (Ok x) m = m ≡ Ok (map seen_as (vec_items x.0), x.1.now)
-ReadsRecords (Err (error.Fault f)) m = (e : RecordFault) × (m ≡ Err e) × (f ≡ fault.Record e)
-ReadsRecords (Err error.Memory) m = Unit {0}
-
--- above 65,536 bytes
-abbrev pub too_long : List ℕ → Bool
-too_long input = nat_lt 65536 (length input)
+abbrev pub ReadsRecords : Reader → Reader → Result (Vec Record Global) ReadError → Result (List Seen × List ℕ) RecordFault → Type 0
+ReadsRecords old new (Ok all) m = (m ≡ Ok (map seen_as (vec_items all), new.left.now)) × (new.whole ≡ old.whole)
+ReadsRecords old new (Err (error.Fault f)) m = (e : RecordFault) × (m ≡ Err e) × (f ≡ fault.Record e)
+ReadsRecords old new (Err (error.Memory e)) m = Unit {0}
 
 -- what a file says
 pub record File : Type 0 where
   pub policy : Policy
-  pub m : ℕ
+  pub processors : ℕ
   pub records : List Seen
 
 abbrev pub file_seen : RackFile → File
-file_seen f = record { policy = f.policy; m = f.m; records = map seen_as (vec_items f.records) }
+file_seen f = record { policy = f.policy; processors = f.processors; records = map seen_as (vec_items f.records) }
 
 -- the records behind a header that is right, and nothing behind them
 abbrev pub with_records : ℕ → Option Policy → ℕ → Result (List Seen × List ℕ) RecordFault → Result File FileFault
-with_records whole None m r = Err fault.Policy
-with_records whole (Some p) m (Err e) = Err (fault.Record e)
-with_records whole (Some p) m (Ok x) = cond (length x.1 == 0) (Ok (record { policy = p; m = m; records = x.0 })) (Err (fault.Record (Bytes (Trailing (place_in whole x.1)))))
+with_records whole None processors r = Err fault.Policy
+with_records whole (Some p) processors (Err e) = Err (fault.Record e)
+with_records whole (Some p) processors (Ok x) =
+    cond (length x.1 == 0) (Ok (record { policy = p; processors = processors; records = x.0 })) (Err (fault.Record (Bytes (Trailing (place_in whole x.1)))))
 
 abbrev pub with_header : List ℕ → Option FileFault → Result File FileFault
 with_header input (Some f) = Err f

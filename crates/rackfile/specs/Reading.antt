@@ -1,8 +1,8 @@
 -- Reading from the front: a field must be whole before its content is judged, and the first thing wrong decides.
-use Rattle.std.specs.Prelude.{◌≡◌, ℕ, ◌+◌, ◌-◌, ◌*◌, cond, List, [], ◌∷◌, length, take, drop, Some, None, Ok, Err, Option, Result, nat_le}
-use Rattle.std.specs.Borrow.{Bor}
+use Rattle.std.specs.Prelude.{◌≡◌, ℕ, ◌+◌, ◌-◌, ◌*◌, Bool, true, false, cond, List, [], ◌∷◌, length, take, drop, Some, None, Ok, Err, Option, Result, ◌==◌, nat_le, nat_lt}
+use Rattle.rackfile.specs.declared.bytes.Reader.{Reader}
 use Rattle.rackfile.specs.declared.fault.BytesFault.{BytesFault}
-use Rattle.rackfile.specs.declared.fault.BytesFault.TheVariants.{Cut}
+use Rattle.rackfile.specs.declared.fault.BytesFault.TheVariants.{TooLong, Cut, Trailing}
 
 -- the place of the next byte, where `rest` is left of an input of length `whole`
 abbrev pub place_in : ℕ → List ℕ → ℕ
@@ -13,13 +13,7 @@ abbrev pub take_byte : List ℕ → Option (ℕ × List ℕ)
 take_byte [] = None
 take_byte (a ∷ rest) = Some (a, rest)
 
--- 16 bits, the most significant byte first
-abbrev pub take_half : List ℕ → Option (ℕ × List ℕ)
-take_half [] = None
-take_half (a ∷ []) = None
-take_half (a ∷ (b ∷ rest)) = Some (a * 256 + b, rest)
-
--- 32 bits
+-- 32 bits, the most significant byte first
 abbrev pub take_word : List ℕ → Option (ℕ × List ℕ)
 take_word [] = None
 take_word (a ∷ []) = None
@@ -36,12 +30,21 @@ abbrev pub field : {A : Type 0} → ℕ → Option (A × List ℕ) → Result (A
 field whole None = Err (Cut whole)
 field whole (Some x) = Ok x
 
--- what a function read: the value, and the part of the input that is left
-abbrev pub Reads : {A E : Type 0} → Result (A × Bor (List ℕ)) E → Result (A × List ℕ) E → Type 0
-Reads (Ok x) m = m ≡ Ok (x.0, x.1.now)
-Reads (Err e) m = m ≡ Err e
+-- what a method of the reader did: the value that it read and what is left behind it, of the same whole; or its fault
+abbrev pub Reads : {A B E : Type 0} → (A → B) → Reader → Reader → Result A E → Result (B × List ℕ) E → Type 0
+Reads view old new (Ok x) m = (m ≡ Ok (view x, new.left.now)) × (new.whole ≡ old.whole)
+Reads view old new (Err e) m = m ≡ Err e
 
--- the same where the value is a part of the input
-abbrev pub Parts : {E : Type 0} → Result (Bor (List ℕ) × Bor (List ℕ)) E → Result (List ℕ × List ℕ) E → Type 0
-Parts (Ok x) m = m ≡ Ok (x.0.now, x.1.now)
-Parts (Err e) m = m ≡ Err e
+-- above 65,536 bytes
+abbrev pub too_long : List ℕ → Bool
+too_long input = nat_lt 65536 (length input)
+
+-- a reader over all of an input that is not too long
+abbrev pub Opens : List ℕ → Result Reader BytesFault → Type 0
+Opens input (Ok r) = (too_long input ≡ false) × (r.whole ≡ length input) × (r.left.now ≡ input)
+Opens input (Err e) = (too_long input ≡ true) × (e ≡ TooLong)
+
+-- whether nothing is left, or where it begins
+abbrev pub Ends : Reader → Result (Unit {0}) BytesFault → Type 0
+Ends r (Ok x) = (length r.left.now == 0) ≡ true
+Ends r (Err e) = ((length r.left.now == 0) ≡ false) × (e ≡ Trailing (place_in r.whole r.left.now))

@@ -1,7 +1,6 @@
 -- Records, and reading one from the front.
-use Rattle.std.specs.Prelude.{◌≡◌, ℕ, ◌+◌, Bool, cond, ◌&&◌, List, length, Ok, Err, Result, ◌==◌, nat_le, nat_lt}
-use Rattle.std.specs.Borrow.{Bor}
-use Rattle.std.specs.List.{prefix_len}
+use Rattle.std.specs.Prelude.{ℕ, ◌+◌, Bool, cond, not, ◌&&◌, List, Some, None, Option, Ok, Err, Result, ◌==◌, nat_le}
+use Rattle.std.specs.List.{position}
 use Rattle.rackfile.specs.declared.fault.RecordFault.{RecordFault}
 use Rattle.rackfile.specs.declared.fault.RecordFault.TheVariants.{Bytes, Tag, Label}
 use Rattle.rackfile.specs.declared.record.Record.{Record}
@@ -26,9 +25,9 @@ tag_of (withdraws number) = 87
 abbrev pub printable : ℕ → Bool
 printable b = nat_le 33 b && nat_le b 126
 
--- how many bytes from the front may
-abbrev pub first_bad : List ℕ → ℕ
-first_bad label = prefix_len printable label
+-- the index of the first byte that may not, or none
+abbrev pub first_bad : List ℕ → Option ℕ
+first_bad label = position (λ b. not (printable b)) label
 
 -- a label has 1 to 16 bytes
 abbrev pub length_allowed : ℕ → Bool
@@ -44,13 +43,17 @@ abbrev pub next : {A B E : Type 0} → Result A E → (A → Result B E) → Res
 next (Ok x) go_on = go_on x
 next (Err e) go_on = Err e
 
+-- a label of this text and place, whose first bad byte is known, and the rest
+abbrev pub judged : ℕ → List ℕ × List ℕ → Option ℕ → Result ((List ℕ × ℕ) × List ℕ) RecordFault
+judged place x None = Ok ((x.0, place), x.1)
+judged place x (Some bad) = Err (Label (place + bad))
+
 -- the bytes of a label, of which each must be printable
-abbrev pub read_text : ℕ → ℕ → List ℕ → Result (List ℕ × ℕ × List ℕ) RecordFault
-read_text whole n s = then Bytes (field whole (take_part n s)) (λ x.
-    cond (nat_lt (first_bad x.0) (length x.0)) (Err (Label (place_in whole s + first_bad x.0))) (Ok (x.0, place_in whole s, x.1)))
+abbrev pub read_text : ℕ → ℕ → List ℕ → Result ((List ℕ × ℕ) × List ℕ) RecordFault
+read_text whole n s = then Bytes (field whole (take_part n s)) (λ x. judged (place_in whole s) x (first_bad x.0))
 
 -- a label: its length, and then its bytes; with its place
-abbrev pub read_label : ℕ → List ℕ → Result (List ℕ × ℕ × List ℕ) RecordFault
+abbrev pub read_label : ℕ → List ℕ → Result ((List ℕ × ℕ) × List ℕ) RecordFault
 read_label whole s = then Bytes (field whole (take_byte s)) (λ x.
     cond (length_allowed x.0) (read_text whole x.0 x.1) (Err (Label (place_in whole s))))
 
@@ -58,7 +61,7 @@ read_label whole s = then Bytes (field whole (take_byte s)) (λ x.
 abbrev pub read_admission : ℕ → List ℕ → Result (Seen × List ℕ) RecordFault
 read_admission whole s =
     then Bytes (field whole (take_word s)) (λ n. then Bytes (field whole (take_word n.1)) (λ c. then Bytes (field whole (take_word c.1)) (λ t.
-    next (read_label whole t.1) (λ l. Ok (admits n.0 c.0 t.0 l.0 l.1, l.2)))))
+    next (read_label whole t.1) (λ l. Ok (admits n.0 c.0 t.0 l.0.0 l.0.1, l.1)))))
 
 -- a withdrawal has a number
 abbrev pub read_withdrawal : ℕ → List ℕ → Result (Seen × List ℕ) RecordFault
@@ -68,12 +71,3 @@ read_withdrawal whole s = then Bytes (field whole (take_word s)) (λ n. Ok (with
 abbrev pub read_record : ℕ → List ℕ → Result (Seen × List ℕ) RecordFault
 read_record whole s = then Bytes (field whole (take_byte s)) (λ x.
     cond (x.0 == 65) (read_admission whole x.1) (cond (x.0 == 87) (read_withdrawal whole x.1) (Err (Tag (place_in whole s)))))
-
--- what a function of the layer read
-abbrev pub ReadsLabel : Result (Bor (List ℕ) × ℕ × Bor (List ℕ)) RecordFault → Result (List ℕ × ℕ × List ℕ) RecordFault → Type 0
-ReadsLabel (Ok x) m = m ≡ Ok (x.0.now, x.1, x.2.now)
-ReadsLabel (Err e) m = m ≡ Err e
-
-abbrev pub ReadsRecord : Result (Record × Bor (List ℕ)) RecordFault → Result (Seen × List ℕ) RecordFault → Type 0
-ReadsRecord (Ok x) m = m ≡ Ok (seen_as x.0, x.1.now)
-ReadsRecord (Err e) m = m ≡ Err e

@@ -1,73 +1,88 @@
-// The first layer: fields of bytes, from the front of what is left of the input. `whole` is the length of the input.
-ghost use Rattle.std.specs.Prelude.{◌≡◌, ◌+◌, ◌*◌, length, nat_le};
-ghost use Rattle.rackfile.specs.Reading.{Reads, Parts, place_in, field, take_byte, take_half, take_word, take_part};
+// The first layer: fields of bytes, from the front of what is left of the input.
+ghost use Rattle.std.specs.Prelude.{◌≡◌};
+ghost use Rattle.rackfile.specs.declared.fault.BytesFault.TheVariants.{Cut};
+ghost use Rattle.rackfile.specs.Reading.{Opens, Reads, Ends, place_in, field, take_byte, take_word, take_part};
 
 use crate::fault::BytesFault;
 
-// The place of the next byte.
-pub(crate) fn place(whole: usize, s: &[u8]) -> usize
-    ensures { result ≡ place_in whole s.now }
-{
-    whole.saturating_sub(s.len())
+// What is left of an input, and the length of the whole input.
+#[derive(Clone, Copy)]
+pub(crate) struct Reader<'a> {
+    pub(crate) whole: usize,
+    pub(crate) left: &'a [u8],
 }
 
-// One byte.
-pub(crate) fn byte(whole: usize, s: &[u8]) -> Result<(u8, &[u8]), BytesFault>
-    ensures { Reads result (field whole (take_byte s.now)) }
-{
-    let [b, rest @ ..] = s else {
-        return Err(BytesFault::Cut { place: whole });
-    };
-    Ok((*b, rest))
-}
-
-// Two bytes as a number, the most significant first.
-pub(crate) fn join_2(a: u8, b: u8) -> u16
-    ensures { result ≡ a * 256 + b }
-{
-    a as u16 * 256 + b as u16
-}
-
-// Four bytes as a number, the most significant first.
-fn join_4(a: u8, b: u8, c: u8, d: u8) -> u32
-    ensures { result ≡ a * 16777216 + b * 65536 + c * 256 + d }
-{
-    a as u32 * 16777216 + b as u32 * 65536 + c as u32 * 256 + d as u32
-}
-
-// A number of 16 bits.
-pub(crate) fn half(whole: usize, s: &[u8]) -> Result<(u16, &[u8]), BytesFault>
-    ensures { Reads result (field whole (take_half s.now)) }
-{
-    let [a, b, rest @ ..] = s else {
-        return Err(BytesFault::Cut { place: whole });
-    };
-    Ok((join_2(*a, *b), rest))
-}
-
-// A number of 32 bits.
-pub(crate) fn word(whole: usize, s: &[u8]) -> Result<(u32, &[u8]), BytesFault>
-    ensures { Reads result (field whole (take_word s.now)) }
-{
-    let [a, b, c, d, rest @ ..] = s else {
-        return Err(BytesFault::Cut { place: whole });
-    };
-    Ok((join_4(*a, *b, *c, *d), rest))
-}
-
-// Whether at least n bytes are left.
-fn has(n: usize, s: &[u8]) -> bool
-    ensures { result ≡ nat_le n (length s.now) }
-{
-    n <= s.len()
-}
-
-// So many bytes, as a part of the input.
-pub(crate) fn part(whole: usize, n: usize, s: &[u8]) -> Result<(&[u8], &[u8]), BytesFault>
-    ensures { Parts result (field whole (take_part n s.now)) }
-{
-    if !has(n, s) {
-        return Err(BytesFault::Cut { place: whole });
+impl<'a> Reader<'a> {
+    // A reader over an input, unless it is longer than a file may be.
+    pub(crate) fn over(input: &'a [u8]) -> Result<Reader<'a>, BytesFault>
+        ensures { Opens input.now result }
+    {
+        if input.len() > 65536 {
+            return Err(BytesFault::TooLong);
+        }
+        Ok(Reader {
+            whole: input.len(),
+            left: input,
+        })
     }
-    Ok((&s[0..n], &s[n..]))
+
+    // The place of the next byte.
+    pub(crate) fn place(&self) -> usize
+        ensures { result ≡ place_in self.now.whole self.now.left.now }
+    {
+        self.whole.saturating_sub(self.left.len())
+    }
+
+    // The fault of a field that is cut short.
+    pub(crate) fn cut(&self) -> BytesFault
+        ensures { result ≡ Cut self.now.whole }
+    {
+        BytesFault::Cut { place: self.whole }
+    }
+
+    // One byte.
+    pub(crate) fn byte(&mut self) -> Result<u8, BytesFault>
+        ensures { Reads (λ b. b) self.old self.new result (field self.old.whole (take_byte self.old.left.now)) }
+    {
+        let [b, rest @ ..] = self.left else {
+            return Err(self.cut());
+        };
+        self.left = rest;
+        Ok(*b)
+    }
+
+    // A number of 32 bits, the most significant byte first.
+    pub(crate) fn word(&mut self) -> Result<u32, BytesFault>
+        ensures { Reads (λ n. n) self.old self.new result (field self.old.whole (take_word self.old.left.now)) }
+    {
+        let [a, b, c, d, rest @ ..] = self.left else {
+            return Err(self.cut());
+        };
+        self.left = rest;
+        Ok(u32::from_be_bytes([*a, *b, *c, *d]))
+    }
+
+    // So many bytes, as a part of the input.
+    pub(crate) fn part(&mut self, n: usize) -> Result<&'a [u8], BytesFault>
+        ensures { Reads (λ part. part.now) self.old self.new result (field self.old.whole (take_part n self.old.left.now)) }
+    {
+        let Some((part, rest)) = self.left.split_at_checked(n) else {
+            return Err(self.cut());
+        };
+        self.left = rest;
+        Ok(part)
+    }
+
+    // Nothing may follow what was read.
+    pub(crate) fn end(&self) -> Result<(), BytesFault>
+        ensures { Ends self.now result }
+    {
+        if self.left.is_empty() {
+            Ok(())
+        } else {
+            Err(BytesFault::Trailing {
+                place: self.place(),
+            })
+        }
+    }
 }

@@ -1,11 +1,14 @@
 // What is wrong with a file: a fault of each reading layer, held by the layer above.
-ghost use Rattle.std.specs.Prelude.{◌≡◌};
-ghost use Rattle.rackfile.specs.Faults.{layer_of, number_of, place_of};
+ghost use Rattle.std.specs.Prelude.{◌≡◌, Some};
+ghost use Rattle.rackfile.specs.Faults.{layer_of, number_of, place_of, layer_name, fault_text};
 ghost use Rattle.rackfile.specs.declared.fault.RecordFault.TheVariants.{Bytes};
 ghost use Rattle.rackfile.specs.declared.fault.FileFault.TheVariants.{Record};
 
+use std::error::Error;
+use std::fmt;
+
 /// The three reading layers.
-#[derive(Clone, Copy)]
+#[derive(Clone, Copy, Debug, PartialEq, Eq)]
 pub enum Layer {
     Bytes,
     Record,
@@ -13,7 +16,7 @@ pub enum Layer {
 }
 
 /// What is wrong with the bytes, whatever they stand for.
-#[derive(Clone, Copy)]
+#[derive(Clone, Copy, Debug, PartialEq, Eq)]
 pub enum BytesFault {
     /// The input is longer than 65,536 bytes.
     TooLong,
@@ -24,7 +27,7 @@ pub enum BytesFault {
 }
 
 /// What is wrong with a record.
-#[derive(Clone, Copy)]
+#[derive(Clone, Copy, Debug, PartialEq, Eq)]
 pub enum RecordFault {
     Bytes(BytesFault),
     /// The tag is neither A nor W.
@@ -34,12 +37,16 @@ pub enum RecordFault {
 }
 
 /// What is wrong with a file.
-#[derive(Clone, Copy)]
+#[derive(Clone, Copy, Debug, PartialEq, Eq)]
 pub enum FileFault {
     Record(RecordFault),
+    /// The file does not begin with the letters RAK.
     Mark,
+    /// The version is not 1.
     Version,
+    /// The policy's letter is none of F, B and W.
     Policy,
+    /// The number of processors is not from 1 to 16.
     Processors,
 }
 
@@ -67,6 +74,7 @@ impl From<BytesFault> for FileFault {
     }
 }
 
+// Each by a match: the variants carry places and lower faults, so their numbers are no discriminants.
 impl FileFault {
     /// The layer that found the fault.
     pub fn layer(&self) -> Layer
@@ -114,3 +122,29 @@ impl FileFault {
         }
     }
 }
+
+impl fmt::Display for Layer {
+    ghost output = { λ l. Some (layer_name l) };
+
+    fn fmt<W: fmt::Write>(&self, f: &mut fmt::Formatter<W>) -> fmt::Result {
+        match self {
+            Layer::Bytes => write!(f, "bytes"),
+            Layer::Record => write!(f, "record"),
+            Layer::File => write!(f, "file"),
+        }
+    }
+}
+
+/// Its layer, its number and its place: `LAYER NUMBER PLACE`.
+impl fmt::Display for FileFault {
+    ghost output = { λ e. Some (fault_text e) };
+
+    fn fmt<W: fmt::Write>(&self, f: &mut fmt::Formatter<W>) -> fmt::Result {
+        let layer = self.layer();
+        let number = self.number();
+        let place = self.place();
+        write!(f, "{layer} {number} {place}")
+    }
+}
+
+impl Error for FileFault {}

@@ -1,11 +1,13 @@
 // The third layer: the file.
-ghost use Rattle.std.specs.Prelude.{◌≡◌, ◌<◌, ◌&&◌, length, Some};
+ghost use Rattle.std.specs.Prelude.{◌≡◌, ◌+◌, ◌*◌, ◌<◌, length, Some};
+ghost use Rattle.std.specs.declared.alloc.AllocError.{AllocError};
+ghost use Rattle.rackfile.specs.declared.fault.RecordFault.TheVariants.{Bytes};
 ghost use Rattle.rackfile.specs.declared.fault.FileFault.TheVariants.{Record};
 ghost use Rattle.rackfile.specs.declared.file.ReadError.TheVariants.{Fault, Memory};
-ghost use Rattle.rackfile.specs.Files.{is_mark, is_version, policy_named, processors_allowed, header_fault, ReadsHeader, ReadsRecords, read_records, too_long};
+ghost use Rattle.rackfile.specs.Files.{is_mark, is_version, processors_allowed, header_fault, ReadsHeader, ReadsRecords, read_records};
 ghost use Rattle.rackfile.specs.Exact.{FileRead};
 
-use crate::bytes::{join_2, place};
+use crate::bytes::Reader;
 use crate::fault::{BytesFault, FileFault, RecordFault};
 use crate::reading::record;
 use crate::record::Record;
@@ -13,18 +15,34 @@ use preferences::Policy;
 use std::alloc::{AllocError, AllocFailed, Global};
 
 /// What a file says: the policy, the number of processors, and the records in their order.
-#[derive(Drop)]
+#[derive(Debug, PartialEq, Eq, Drop)]
 pub struct RackFile<'a> {
     pub policy: Policy,
-    pub m: u8,
+    pub processors: u8,
     pub records: Vec<Record<'a>>,
 }
 
 /// Why no file was read: something is wrong with it, or there is no memory for its records.
-#[derive(Clone, Copy)]
+#[derive(Clone, Copy, Debug, PartialEq, Eq)]
 pub enum ReadError {
     Fault(FileFault),
-    Memory,
+    Memory(AllocError),
+}
+
+impl From<BytesFault> for ReadError {
+    ghost from_gives = { λ e r. r ≡ Fault (Record (Bytes e)) };
+
+    fn from(e: BytesFault) -> ReadError {
+        ReadError::Fault(e.into())
+    }
+}
+
+impl From<RecordFault> for ReadError {
+    ghost from_gives = { λ e r. r ≡ Fault (Record e) };
+
+    fn from(e: RecordFault) -> ReadError {
+        ReadError::Fault(e.into())
+    }
 }
 
 impl From<FileFault> for ReadError {
@@ -35,37 +53,28 @@ impl From<FileFault> for ReadError {
     }
 }
 
-impl From<RecordFault> for ReadError {
-    ghost from_gives = { λ e r. r ≡ Fault (Record e) };
-
-    fn from(e: RecordFault) -> ReadError {
-        ReadError::Fault(FileFault::Record(e))
-    }
-}
-
 impl From<AllocError> for ReadError {
-    ghost from_gives = { λ _ r. r ≡ Memory };
+    ghost from_gives = { λ e r. r ≡ Memory e };
 
-    fn from(_e: AllocError) -> ReadError {
-        ReadError::Memory
+    fn from(e: AllocError) -> ReadError {
+        ReadError::Memory(e)
     }
 }
 
 impl<T: Drop> From<AllocFailed<T>> for ReadError {
-    ghost from_gives = { λ _ r. r ≡ Memory };
+    ghost from_gives = { λ _ r. (e : AllocError) × (r ≡ Memory e) };
 
-    fn from(_e: AllocFailed<T>) -> ReadError {
-        ReadError::Memory
+    fn from(e: AllocFailed<T>) -> ReadError {
+        ReadError::Memory(e.into())
     }
 }
 
 // What the header says of the file.
 #[derive(Clone, Copy)]
-pub(crate) struct Header<'a> {
+pub(crate) struct Header {
     policy: Policy,
-    m: u8,
+    processors: u8,
     count: u16,
-    rest: &'a [u8],
 }
 
 fn has_mark(r: u8, a: u8, k: u8) -> bool
@@ -77,33 +86,29 @@ fn has_mark(r: u8, a: u8, k: u8) -> bool
 fn has_version(high: u8, low: u8) -> bool
     ensures { result ≡ is_version high low }
 {
-    join_2(high, low) == 1
+    u16::from_be_bytes([high, low]) == 1
 }
 
-// The policy of a letter.
-fn policy_named_by(letter: char) -> Option<Policy>
-    ensures { result ≡ policy_named letter }
+// Whether a rack may have so many processors.
+fn is_rack_size(n: u8) -> bool
+    ensures { result ≡ processors_allowed n }
 {
-    match letter {
-        'F' => Some(Policy::First),
-        'B' => Some(Policy::Best),
-        'W' => Some(Policy::Worst),
-        _ => None,
-    }
+    1 <= n && n <= 16
 }
 
-fn is_rack_size(m: u8) -> bool
-    ensures { result ≡ processors_allowed m }
+// The count of records in its two bytes, the more significant first.
+fn count_from(more: u8, less: u8) -> u16
+    ensures { result ≡ more * 256 + less }
 {
-    1 <= m && m <= 16
+    u16::from_be_bytes([more, less])
 }
 
-// The fault of a header that is cut short, field by field.
+// The fault of a header that is cut short, field by field: a chain of `if`s, since the first wrong field decides.
 fn short_fault(whole: usize, s: &[u8]) -> FileFault
     requires { length s.now < 9 }
     ensures { header_fault whole s.now ≡ Some result }
 {
-    let cut = FileFault::Record(RecordFault::Bytes(BytesFault::Cut { place: whole }));
+    let cut = FileFault::from(BytesFault::Cut { place: whole });
     if s.len() < 3 {
         return cut;
     }
@@ -119,7 +124,7 @@ fn short_fault(whole: usize, s: &[u8]) -> FileFault
     if s.len() < 6 {
         return cut;
     }
-    if policy_named_by(s[5] as char).is_none() {
+    if Policy::try_from(char::from(s[5])).is_err() {
         return FileFault::Policy;
     }
     if s.len() < 7 {
@@ -132,11 +137,23 @@ fn short_fault(whole: usize, s: &[u8]) -> FileFault
 }
 
 // The header.
-fn read_header(whole: usize, s: &[u8]) -> Result<Header<'_>, FileFault>
-    ensures { ReadsHeader whole s.now result }
+fn read_header(reader: &mut Reader<'_>) -> Result<Header, FileFault>
+    ensures { ReadsHeader reader.old reader.new result }
 {
-    let [r, a, k, high, low, letter, m, more, less, rest @ ..] = s else {
-        return Err(short_fault(whole, s));
+    let [
+        r,
+        a,
+        k,
+        high,
+        low,
+        letter,
+        processors,
+        more,
+        less,
+        rest @ ..,
+    ] = reader.left
+    else {
+        return Err(short_fault(reader.whole, reader.left));
     };
     if !has_mark(*r, *a, *k) {
         return Err(FileFault::Mark);
@@ -144,64 +161,47 @@ fn read_header(whole: usize, s: &[u8]) -> Result<Header<'_>, FileFault>
     if !has_version(*high, *low) {
         return Err(FileFault::Version);
     }
-    let Some(policy) = policy_named_by(*letter as char) else {
+    let Ok(policy) = Policy::try_from(char::from(*letter)) else {
         return Err(FileFault::Policy);
     };
-    if !is_rack_size(*m) {
+    if !is_rack_size(*processors) {
         return Err(FileFault::Processors);
     }
+    reader.left = rest;
     Ok(Header {
         policy,
-        m: *m,
-        count: join_2(*more, *less),
-        rest,
+        processors: *processors,
+        count: count_from(*more, *less),
     })
 }
 
-// So many records, and the rest.
-fn records<'a>(
-    heap: Global,
-    whole: usize,
+// So many records.
+fn read_records<'a>(
+    alloc: Global,
+    reader: &mut Reader<'a>,
     count: u16,
-    s: &'a [u8],
-) -> Result<(Vec<Record<'a>>, &'a [u8]), ReadError>
-    ensures { ReadsRecords result (read_records whole count s.now) }
+) -> Result<Vec<Record<'a>>, ReadError>
+    ensures { ReadsRecords reader.old reader.new result (read_records reader.old.whole count reader.old.left.now) }
 {
-    let mut all = Vec::new(heap);
-    let mut left = s;
+    let mut all = Vec::new(alloc);
     for _i in 0..count {
-        let (one, rest) = record(whole, left)?;
+        let one = record(reader)?;
         all.push(one)?;
-        left = rest;
     }
-    Ok((all, left))
-}
-
-// Whether the input is longer than a file may be.
-fn is_too_long(input: &[u8]) -> bool
-    ensures { result ≡ too_long input.now }
-{
-    input.len() > 65536
+    Ok(all)
 }
 
 /// Reads a file: what the bytes stand for, or the first thing wrong from the front.
-pub fn read_file<'a>(heap: Global, input: &'a [u8]) -> Result<RackFile<'a>, ReadError>
+pub fn read_file<'a>(alloc: Global, input: &'a [u8]) -> Result<RackFile<'a>, ReadError>
     ensures { FileRead input.now result }
 {
-    if is_too_long(input) {
-        return Err(ReadError::Fault(FileFault::Record(RecordFault::Bytes(BytesFault::TooLong))));
-    }
-    let whole = input.len();
-    let head = read_header(whole, input)?;
-    let (records, rest) = records(heap, whole, head.count, head.rest)?;
-    if rest.len() != 0 {
-        return Err(ReadError::Fault(FileFault::Record(RecordFault::Bytes(BytesFault::Trailing {
-            place: place(whole, rest),
-        }))));
-    }
+    let mut reader = Reader::over(input)?;
+    let head = read_header(&mut reader)?;
+    let records = read_records(alloc, &mut reader, head.count)?;
+    reader.end()?;
     Ok(RackFile {
         policy: head.policy,
-        m: head.m,
+        processors: head.processors,
         records,
     })
 }

@@ -1,9 +1,10 @@
 // The second layer: records.
 ghost use Rattle.std.specs.Prelude.{◌≡◌};
-ghost use Rattle.rackfile.specs.Records.{printable, first_bad, length_allowed, ReadsLabel, ReadsRecord, read_label, read_admission, read_withdrawal, read_record};
+ghost use Rattle.rackfile.specs.Reading.{Reads};
+ghost use Rattle.rackfile.specs.Records.{printable, first_bad, length_allowed, seen_as, read_label, read_admission, read_withdrawal, read_record};
 
-use crate::bytes::{byte, part, place, word};
-use crate::fault::{BytesFault, RecordFault};
+use crate::bytes::Reader;
+use crate::fault::RecordFault;
 use crate::record::Record;
 
 // Whether a byte may stand in a label.
@@ -13,16 +14,11 @@ fn is_printable(b: u8) -> bool
     0x21 <= b && b <= 0x7e
 }
 
-// The index of the first byte that may not, or the length where all may.
-fn first_bad_byte(label: &[u8]) -> usize
+// The index of the first byte that may not.
+fn first_bad_byte(label: &[u8]) -> Option<usize>
     ensures { result ≡ first_bad label.now }
 {
-    for i in 0..label.len() {
-        if !is_printable(label[i]) {
-            return i;
-        }
-    }
-    label.len()
+    label.iter().position(|b| !is_printable(*b))
 }
 
 // Whether a label may be so long.
@@ -32,63 +28,56 @@ fn is_label_length(n: u8) -> bool
     1 <= n && n <= 16
 }
 
-// A label, its place, and the rest.
-fn label(whole: usize, s: &[u8]) -> Result<(&[u8], usize, &[u8]), RecordFault>
-    ensures { ReadsLabel result (read_label whole s.now) }
+// A label and its place.
+fn label<'a>(reader: &mut Reader<'a>) -> Result<(&'a [u8], usize), RecordFault>
+    ensures { Reads (λ label. (label.0.now, label.1)) reader.old reader.new result (read_label reader.old.whole reader.old.left.now) }
 {
-    let (n, behind) = byte(whole, s)?;
+    let before = reader.place();
+    let n = reader.byte()?;
     if !is_label_length(n) {
-        return Err(RecordFault::Label {
-            place: place(whole, s),
-        });
+        return Err(RecordFault::Label { place: before });
     }
-    let (text, rest) = part(whole, n as usize, behind)?;
-    let bad = first_bad_byte(text);
-    let at = place(whole, behind);
-    if bad < text.len() {
-        return Err(RecordFault::Label { place: at + bad });
+    let place = reader.place();
+    let text = reader.part(usize::from(n))?;
+    match first_bad_byte(text) {
+        Some(bad) => Err(RecordFault::Label { place: place + bad }),
+        None => Ok((text, place)),
     }
-    Ok((text, at, rest))
 }
 
 // An admission, behind its tag.
-fn admission(whole: usize, s: &[u8]) -> Result<(Record<'_>, &[u8]), RecordFault>
-    ensures { ReadsRecord result (read_admission whole s.now) }
+fn admission<'a>(reader: &mut Reader<'a>) -> Result<Record<'a>, RecordFault>
+    ensures { Reads seen_as reader.old reader.new result (read_admission reader.old.whole reader.old.left.now) }
 {
-    let (number, s) = word(whole, s)?;
-    let (work, s) = word(whole, s)?;
-    let (period, s) = word(whole, s)?;
-    let (label, place, rest) = label(whole, s)?;
-    Ok((
-        Record::Admission {
-            number,
-            work,
-            period,
-            label,
-            place,
-        },
-        rest,
-    ))
+    let number = reader.word()?;
+    let work = reader.word()?;
+    let period = reader.word()?;
+    let (label, place) = label(reader)?;
+    Ok(Record::Admission {
+        number,
+        work,
+        period,
+        label,
+        place,
+    })
 }
 
 // A withdrawal, behind its tag.
-fn withdrawal(whole: usize, s: &[u8]) -> Result<(Record<'_>, &[u8]), RecordFault>
-    ensures { ReadsRecord result (read_withdrawal whole s.now) }
+fn withdrawal<'a>(reader: &mut Reader<'a>) -> Result<Record<'a>, RecordFault>
+    ensures { Reads seen_as reader.old reader.new result (read_withdrawal reader.old.whole reader.old.left.now) }
 {
-    let (number, rest) = word(whole, s)?;
-    Ok((Record::Withdrawal { number }, rest))
+    let number = reader.word()?;
+    Ok(Record::Withdrawal { number })
 }
 
-// The record at the front, and the rest.
-pub(crate) fn record(whole: usize, s: &[u8]) -> Result<(Record<'_>, &[u8]), RecordFault>
-    ensures { ReadsRecord result (read_record whole s.now) }
+// The record at the front.
+pub(crate) fn record<'a>(reader: &mut Reader<'a>) -> Result<Record<'a>, RecordFault>
+    ensures { Reads seen_as reader.old reader.new result (read_record reader.old.whole reader.old.left.now) }
 {
-    let (tag, rest) = byte(whole, s)?;
-    match tag {
-        b'A' => admission(whole, rest),
-        b'W' => withdrawal(whole, rest),
-        _ => Err(RecordFault::Tag {
-            place: place(whole, s),
-        }),
+    let place = reader.place();
+    match reader.byte()? {
+        b'A' => admission(reader),
+        b'W' => withdrawal(reader),
+        _ => Err(RecordFault::Tag { place }),
     }
 }

@@ -1,7 +1,7 @@
 // A record of the file.
 
 /// A record, which borrows its label from the input.
-#[derive(Clone, Copy)]
+#[derive(Clone, Copy, Debug, PartialEq, Eq)]
 pub enum Record<'a> {
     /// A task asks for a seat. Its label stands in the input at `place`.
     Admission {

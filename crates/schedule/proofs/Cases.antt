@@ -6,7 +6,8 @@ use Rattle.tasks.specs.Demand.{Fits, FitsAt}
 use Rattle.tasks.proofs.Roundings.{up_one, up_more}
 use Rattle.tasks.proofs.Bounds.{limits}
 use Rattle.tasks.proofs.Goods.{good_parts, good_from}
-use Rattle.schedule.specs.Examples.{task, light, heavy, OneFitsOneDoesNot, EitherOrderIsLawful, EmptyFitsEach}
+use Rattle.tasks.specs.Tasks.{task_of}
+use Rattle.schedule.specs.Examples.{light, heavy, OneFitsOneDoesNot, EitherOrderIsLawful, EmptyFitsEach}
 
 light_fits : Fits light
 unfolding up
@@ -18,8 +19,8 @@ heavy_second : FitsAt heavy 1 → ⊥
 heavy_second (t, h) = go (cases_lt 5 t)
   where
     go : (5 < t) ⊎ (t ≤ 5) → ⊥
-    go (inl a) = let g = good_parts (task 2 4 7) (task 1 2 5 ∷ []) t h in omega (arith, g.enough, g.ends, up_more t 5 1 (omega arith) (omega arith))
-    go (inr a) = let g = good_parts (task 2 4 7) (task 1 2 5 ∷ []) t h in omega (arith, g.enough, g.ends, up_one t 5 g.starts a)
+    go (inl a) = let g = good_parts (task_of 2 4 7) (task_of 1 2 5 ∷ []) t h in omega (arith, g.enough, g.ends, up_more t 5 1 (omega arith) (omega arith))
+    go (inr a) = let g = good_parts (task_of 2 4 7) (task_of 1 2 5 ∷ []) t h in omega (arith, g.enough, g.ends, up_one t 5 g.starts a)
 
 pub one_fits_one_does_not : OneFitsOneDoesNot
 one_fits_one_does_not = (refl, refl, light_fits, refl, refl, λ f. heavy_second (f 1 (omega arith)))

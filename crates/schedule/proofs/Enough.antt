@@ -1,7 +1,6 @@
 -- A good instant is enough: the core, with what a lawful list can release.
-use Rattle.std.proofs.Common.{◌≡◌, ℕ, ◌+◌, ◌*◌, ◌<◌, ◌≤◌, true, List, length, get_or, take, Some, None, Option, refl, subst, arith}
-use Rattle.std.specs.List.{AllByRecursion}
-use Rattle.std.proofs.ByRecursion.{All-take}
+use Rattle.std.proofs.Common.{◌≡◌, ℕ, ◌+◌, ◌*◌, ◌<◌, ◌≤◌, true, List, length, get_or, take, Some, None, Option, refl, subst, arith, All}
+use Rattle.std.proofs.lemmas.List.Elements.{All-take}
 use Rattle.std.proofs.lemmas.Bool.{both_ways}
 use Rattle.tasks.specs.declared.task.Task.{Task}
 use Rattle.tasks.specs.declared.units.Units.{Units}
@@ -18,42 +17,43 @@ use Rattle.machine.specs.Traces.{states_at}
 use Rattle.tasks.proofs.Goods.{good_parts}
 use Rattle.schedule.specs.Places.{good_at}
 use Rattle.schedule.specs.Sufficient.{WaitsLess, IdleFrom, DoneBy, FittingPlaceIsSafe, FittingListIsSafe}
-use Rattle.schedule.proofs.Parts.{lawful_parts}
+use Rattle.machine.proofs.Job.{due_apart}
+use Rattle.machine.proofs.Trace.{length-states}
 use Rattle.schedule.proofs.Windows.{win}
 use Rattle.schedule.proofs.Critical as core
-use Rattle.schedule.proofs.Steps.{limits_work, held_above, come_above, own_state, own_ready, held_start, own_start, own_renewed, own_tick, length-states}
-use Rattle.schedule.proofs.Counting.{due_apart, come_most}
+use Rattle.schedule.proofs.Steps.{held_above, come_above, own_state, own_ready, held_start, own_start, own_renewed, own_tick}
+use Rattle.schedule.proofs.Counting.{come_most}
 use Rattle.schedule.proofs.Runs.{some_late, runs_follow_traces}
 
 -- a task that waits was released before, and its deadline is a period after that
-pub waits_from : (ts : List Task) (rs : List Release) → AllByRecursion Limits ts → (k : ℕ) → k < length ts → (now : ℕ) (left : Units) (deadline : Ticks) → own_state ts rs k now ≡ Waiting left deadline
+pub waits_from : (ts : List Task) (rs : List Release) → all_within ts ≡ true → (k : ℕ) → k < length ts → (now : ℕ) (left : Units) (deadline : Ticks) → own_state ts rs k now ≡ Waiting left deadline
     → core.Open (come_above ts rs k) (due rs k) 1 (get_or ts k no_task).work.0 (get_or ts k no_task).period.0 now now (held_above ts rs k now) left.0 deadline.0
-waits_from ts rs s k l = core.opened (come_above ts rs k) (due rs k) 1 (get_or ts k no_task).work.0 (get_or ts k no_task).period.0 (held_above ts rs k) (own_state ts rs k) (own_ready ts rs k)
-    (held_start ts rs k) (own_start ts rs k) (own_renewed ts rs k (limits_work ts s) l) (own_tick ts rs k (limits_work ts s))
+waits_from ts rs w k l = core.opened (come_above ts rs k) (due rs k) 1 (get_or ts k no_task).work.0 (get_or ts k no_task).period.0 (held_above ts rs k) (own_state ts rs k) (own_ready ts rs k)
+    (held_start ts rs k) (own_start ts rs k) (own_renewed ts rs k w l) (own_tick ts rs k w)
 
 -- g ticks leave the task at place k its work, wherever they begin
-room : (ts : List Task) → AllByRecursion Limits ts → (k g : ℕ) → good_at ts k g ≡ true → (horizon : ℕ) (rs : List Release) → lawful ts horizon rs ≡ true
+room : (ts : List Task) → All Limits ts → (k g : ℕ) → good_at ts k g ≡ true → (horizon : ℕ) (rs : List Release) → lawful ts horizon rs ≡ true
     → (a : ℕ) → win (come_above ts rs k) a g + (get_or ts k no_task).work.0 ≤ 1 * g
 room ts s k g good horizon rs law a =
-    omega (arith, (good_parts (get_or ts k no_task) (take k ts) g good).enough, come_most ts rs k (All-take Limits k ts s) (lawful_parts ts horizon rs law).ordered a g)
+    omega (arith, (good_parts (get_or ts k no_task) (take k ts) g good).enough, come_most ts rs k (All-take Limits k ts s) horizon law a g)
 
 pub waits_less : WaitsLess
 waits_less ts h k g l good horizon rs law = let s = all_limits ts h in
     core.waits_less (come_above ts rs k) (due rs k) 1 (get_or ts k no_task).work.0 (get_or ts k no_task).period.0 (held_above ts rs k) (own_state ts rs k) (own_ready ts rs k)
-    (held_start ts rs k) (own_start ts rs k) (own_renewed ts rs k (limits_work ts s) l) (own_tick ts rs k (limits_work ts s)) g (room ts s k g good horizon rs law)
+    (held_start ts rs k) (own_start ts rs k) (own_renewed ts rs k h l) (own_tick ts rs k h) g (room ts s k g good horizon rs law)
 
 pub idle_from : IdleFrom
 idle_from ts h k g l good horizon rs law r n d far none = let s = all_limits ts h in
     core.idle_from (come_above ts rs k) (due rs k) 1 (get_or ts k no_task).work.0 (get_or ts k no_task).period.0 (held_above ts rs k) (own_state ts rs k) (own_ready ts rs k)
-    (held_start ts rs k) (own_start ts rs k) (own_renewed ts rs k (limits_work ts s) l) (own_tick ts rs k (limits_work ts s)) g (room ts s k g good horizon rs law)
+    (held_start ts rs k) (own_start ts rs k) (own_renewed ts rs k h l) (own_tick ts rs k h) g (room ts s k g good horizon rs law)
     r n far (λ q a b e. both_ways (due rs k q) (none q a b) e)
 
 pub done_by : DoneBy
 done_by ts h k g l good horizon rs law r d = let s = all_limits ts h in
     core.idle_from (come_above ts rs k) (due rs k) 1 (get_or ts k no_task).work.0 (get_or ts k no_task).period.0 (held_above ts rs k) (own_state ts rs k) (own_ready ts rs k)
-    (held_start ts rs k) (own_start ts rs k) (own_renewed ts rs k (limits_work ts s) l) (own_tick ts rs k (limits_work ts s)) g (room ts s k g good horizon rs law)
+    (held_start ts rs k) (own_start ts rs k) (own_renewed ts rs k h l) (own_tick ts rs k h) g (room ts s k g good horizon rs law)
     r (r + g) (omega arith)
-    (λ q a b e. omega (arith, due_apart ts rs k (lawful_parts ts horizon rs law).ordered r q d e a, (good_parts (get_or ts k no_task) (take k ts) g good).ends))
+    (λ q a b e. omega (arith, due_apart ts horizon rs k r q law d e a, (good_parts (get_or ts k no_task) (take k ts) g good).ends))
 
 -- no place that fits waits at its deadline
 never_late : (ts : List Task) → all_within ts ≡ true → (k : ℕ) → k < length ts → FitsAt ts k → (horizon : ℕ) (rs : List Release) → lawful ts horizon rs ≡ true

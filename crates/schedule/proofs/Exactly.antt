@@ -1,10 +1,9 @@
 -- A list fits exactly when nothing can miss, and in priority order fails to fit exactly when each order can miss.
-use Rattle.std.proofs.Common.{◌≡◌, ℕ, zero, suc, ◌<◌, ◌≤◌, true, ◌⊎◌, List, [], ◌∷◌, length, get_or, take, Some, None, Option, sym, refl, ◌∙◌, subst, inl, inr, arith}
-use Rattle.std.specs.List.{AllByRecursion}
+use Rattle.std.proofs.Common.{◌≡◌, ℕ, zero, suc, ◌<◌, ◌≤◌, true, ◌⊎◌, List, length, get_or, take, Some, None, Option, sym, ◌∙◌, subst, inl, inr, arith}
 use Rattle.std.specs.List.Sorted.{IsPermutation}
-use Rattle.std.proofs.lemmas.Bool.{cases_lt, both_ways, and_parts, and_from}
-use Rattle.std.proofs.lemmas.List.Sorted.{IsPermutation-refl}
-use Rattle.std.proofs.ByRecursion.{all_shuffled}
+use Rattle.std.proofs.lemmas.Bool.{cases_lt, both_ways}
+use Rattle.std.proofs.lemmas.List.Sorted.{IsPermutation-refl, All-permutation}
+use Rattle.std.proofs.lemmas.List.Sums.{AllPass-from_list_all, list_all-from_AllPass}
 use Rattle.tasks.specs.declared.task.Task.{Task}
 use Rattle.tasks.specs.declared.units.Ticks.{Ticks}
 use Rattle.tasks.specs.Instants.{least}
@@ -56,16 +55,8 @@ pub unfit_exactly_when_can_miss : UnfitExactlyWhenCanMiss
 unfit_exactly_when_can_miss ts h = (λ bad. unfit_can_miss ts h (unfit_from ts bad), λ m f. cannot_miss ts (fitting_list_is_safe ts h f) m)
 
 -- the limits hold in each order
-within_all : (ts : List Task) → all_within ts ≡ true → AllByRecursion (λ x. within_limits x ≡ true) ts
-within_all [] h = tt
-within_all (x ∷ xs) h = let p = and_parts (within_limits x) (all_within xs) h in (p.0, within_all xs p.1)
-
-all_to_within : (ts : List Task) → AllByRecursion (λ x. within_limits x ≡ true) ts → all_within ts ≡ true
-all_to_within [] a = refl
-all_to_within (x ∷ xs) a = and_from (within_limits x) (all_within xs) a.0 (all_to_within xs a.1)
-
 pub within_shuffled : (ts us : List Task) → IsPermutation ts us → all_within ts ≡ true → all_within us ≡ true
-within_shuffled ts us sh h = all_to_within us (all_shuffled (λ x. within_limits x ≡ true) ts us sh (within_all ts h))
+within_shuffled ts us sh h = list_all-from_AllPass within_limits us (All-permutation (λ x. within_limits x ≡ true) ts us sh (AllPass-from_list_all within_limits ts h))
 
 pub priority_order_is_best : PriorityOrderIsBest
 priority_order_is_best ts us sorted sh bad f = let m = no_order_fits ts us sorted sh (unfit_from ts bad) in m.2 (f m.0 m.1)

@@ -9,7 +9,7 @@ pub mod Sync
 pub mod Needed
 pub mod Order
 pub mod Exactly
-pub mod Published
+pub mod PublishedTest
 pub mod Passing
 pub mod Removing
 pub mod Permuting

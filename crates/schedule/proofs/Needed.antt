@@ -1,9 +1,8 @@
 -- Without a good instant the synchronous releases make a task miss.
-use Rattle.std.proofs.Common.{◌≡◌, ℕ, suc, ◌+◌, ◌-◌, ◌%◌, ◌<◌, ◌≤◌, true, false, List, length, get_or, take, Some, None, Option, sym, refl, ap, ◌∙◌, subst, inl, inr, mod-eq_of_lt, zero-add, arith, length-take, get_or-take}
+use Rattle.std.proofs.Common.{◌≡◌, ℕ, suc, ◌+◌, ◌-◌, ◌%◌, ◌<◌, ◌≤◌, true, false, List, length, get_or, take, Some, None, Option, sym, refl, ap, ◌∙◌, subst, inl, inr, mod-eq_of_lt, zero-add, arith, length-take, get_or-take, All}
 use native.Mathlib.Nat.{zero-mod}
-use Rattle.std.specs.List.{AllByRecursion}
 use Rattle.std.proofs.lemmas.List.{take_all}
-use Rattle.std.proofs.ByRecursion.{All-take, All-get_or}
+use Rattle.std.proofs.lemmas.List.Elements.{All-take, All-get_or}
 use Rattle.std.proofs.lemmas.Bool.{cases_Bool, cond-true, cond-false}
 use Rattle.tasks.specs.declared.task.Task.{Task}
 use Rattle.tasks.specs.declared.units.Units.{Units}
@@ -19,11 +18,12 @@ use Rattle.machine.specs.Traces.{states_at}
 use Rattle.tasks.proofs.Goods.{good_from}
 use Rattle.schedule.specs.Synchronous.{synchronous}
 use Rattle.schedule.specs.Necessary.{SynchronousMisses, UnfitCanMiss, UnfitFrontCanMiss}
-use Rattle.schedule.proofs.Parts.{lawful_parts}
+use Rattle.machine.proofs.Job.{Found, due_find}
+use Rattle.machine.proofs.Trace.{length-states}
 use Rattle.schedule.proofs.Windows.{win}
 use Rattle.schedule.proofs.Critical.{spend, free, waits_on}
-use Rattle.schedule.proofs.Steps.{limits_work, held_above, come_above, own_state, own_ready, held_start, own_start, own_ready_is, own_renewed, held_ready, above_falls, own_spends, length-states, released_exact}
-use Rattle.schedule.proofs.Counting.{Found, due_find, due_apart, come_least}
+use Rattle.schedule.proofs.Steps.{held_above, come_above, own_state, own_ready, held_start, own_start, own_ready_is, own_renewed, held_ready, above_falls, own_spends, released_exact}
+use Rattle.schedule.proofs.Counting.{due_spaced, come_least}
 use Rattle.schedule.proofs.Runs.{runs_meet_traces, none_fine, some_late, runs_follow_traces}
 use Rattle.schedule.proofs.Enough.{waits_from}
 use Rattle.schedule.proofs.Sync.{synchronous_is_lawful, lawful_front, sync_due, sync_all, Synced}
@@ -39,7 +39,7 @@ module _ (ts : List Task) (within : all_within ts ≡ true) (k m : ℕ) (below :
   abbrev C : Units
   C = (get_or ts k no_task).work
 
-  s : AllByRecursion Limits ts
+  s : All Limits ts
   s = all_limits ts within
 
   l : k < length ts
@@ -84,8 +84,8 @@ module _ (ts : List Task) (within : all_within ts ≡ true) (k m : ℕ) (below :
 
       idle : (j n : ℕ) → j < length ts → n < H → due rs j n ≡ true → own_state ts rs j n ≡ Idle
       idle j n i h e = free (due rs j) (get_or ts j no_task).work.0 (get_or ts j no_task).period.0 (own_state ts rs j) (own_ready ts rs j) (All-get_or Limits ts j no_task i s).period_from
-          (own_start ts rs j) (own_renewed ts rs j (limits_work ts s) i) (λ n. (1 - held_ready ts rs j n, own_spends ts rs j (limits_work ts s) n)) H
-          (λ n d a x. none_fine n 0 (states_at ts rs n) (clear n a) j d x) (due_apart ts rs j (lawful_parts ts H rs allowed).ordered) n (omega arith) e
+          (own_start ts rs j) (own_renewed ts rs j within i) (λ n. (1 - held_ready ts rs j n, own_spends ts rs j within n)) H
+          (λ n d a x. none_fine n 0 (states_at ts rs n) (clear n a) j d x) (due_spaced ts H rs j allowed) n (omega arith) e
 
       whole : (n : ℕ) → n < H → held_ready ts rs k n ≡ held_above ts rs k n + come_above ts rs k n
       whole n h = released_exact rs n 0 k ts (states_at ts rs n) (length-states ts rs n) (λ j i e. idle j n i h (subst (λ z. due rs z n ≡ true) (zero-add j) e))
@@ -97,8 +97,8 @@ module _ (ts : List Task) (within : all_within ts ≡ true) (k m : ℕ) (below :
       last : (left : Units) × (own_state ts rs k H ≡ Waiting left (record { 0 = H }))
       last = waits_on (come_above ts rs k) 1 C H H (held_above ts rs k) (own_state ts rs k) (own_ready ts rs k) mine.work_from ready_first (held_start ts rs k)
           (λ n a b. own_ready_is ts rs k n l ∙ cond-false (due rs k n) (Waiting C (record { 0 = n + H })) (own_state ts rs k n) (once n a b))
-          (λ n h. above_falls ts rs k (limits_work ts s) n ∙ ap (λ (x : ℕ). x - 1) (whole n h))
-          (λ n h. own_spends ts rs k (limits_work ts s) n ∙ ap (λ (x : ℕ). spend (1 - x) (own_ready ts rs k n)) (whole n h))
+          (λ n h. above_falls ts rs k within n ∙ ap (λ (x : ℕ). x - 1) (whole n h))
+          (λ n h. own_spends ts rs k within n ∙ ap (λ (x : ℕ). spend (1 - x) (own_ready ts rs k n)) (whole n h))
           (λ n a b c. bad (n, good_from (get_or ts k no_task) (take k ts) n (record { starts = a; ends = b; enough = omega (arith, least n b) }))) mine.period_from
 
   pub front_misses : (x : Miss) × ((outcome ts H rs).miss ≡ Some x)
@@ -113,7 +113,7 @@ module _ (ts : List Task) (within : all_within ts ≡ true) (k m : ℕ) (below :
   front_place x e =
       let late = some_late x.instant.0 0 (states_at ts rs x.instant.0) x.place ((runs_follow_traces ts H rs x).0 e).1 in
       let i : late.at < length ts = omega (arith, late.inside, length-states ts rs x.instant.0) in
-      let o = waits_from ts rs s late.at i x.instant.0 late.left (record { 0 = x.instant.0 }) late.waits in
+      let o = waits_from ts rs within late.at i x.instant.0 late.left (record { 0 = x.instant.0 }) late.waits in
       let f = due_find (Synced (take m ts) 0 H) rs late.at o.released (sync_all (take m ts) 0 H) o.was in
       omega (arith, f.holds.place, f.place, late.is, long)
 

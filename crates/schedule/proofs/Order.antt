@@ -1,11 +1,10 @@
 -- Rate-monotonic order is optimal among fixed orders, without exchanging tasks one by one: of the tasks up to the one that has no good instant, the one that stands lowest in another order has none there.
-use Rattle.std.proofs.Common.{◌≡◌, ℕ, zero, suc, ◌+◌, ◌*◌, ◌<◌, ◌≤◌, true, cond, leb, ◌⊎◌, List, [], ◌∷◌, length, get_or, take, sum_by, sym, refl, ap, ◌∙◌, inl, inr, mul-one, arith}
-use Rattle.std.specs.List.{AllByRecursion}
+use Rattle.std.proofs.Common.{◌≡◌, ℕ, zero, suc, ◌+◌, ◌*◌, ◌<◌, ◌≤◌, true, cond, leb, ◌⊎◌, List, [], ◌∷◌, length, get_or, take, sum_by, sym, refl, ap, ◌∙◌, inl, inr, mul-one, arith, All}
 use Rattle.std.specs.List.Sorted.{IsPermutation}
 use Rattle.std.proofs.lemmas.Bool.{cases_lt, le-leb, lt-leb, leb-true, cond-true, cond-false, cond_both, and_parts}
 use Rattle.std.proofs.lemmas.List.Sums.{sum_by-cons}
-use Rattle.std.proofs.ByRecursion.{All-get_or, all_shuffled}
-use Rattle.std.proofs.lemmas.List.Sorted.{sum_by-IsPermutation, IsPermutation-sym}
+use Rattle.std.proofs.lemmas.List.Elements.{All-nil, All-cons, All-head, All-tail}
+use Rattle.std.proofs.lemmas.List.Sorted.{sum_by-IsPermutation, IsPermutation-sym, All-permutation}
 use Rattle.tasks.specs.declared.task.Task.{Task}
 use Rattle.tasks.specs.Rounding.{up}
 use Rattle.tasks.specs.Priority.{stands_above, by_priority}
@@ -53,17 +52,17 @@ record Lowest (b : ℕ) (us : List Task) : Type 0 where
   short : (get_or us at no_task).period.0 ≤ b
   all : (t : ℕ) → parts b t us ≤ work_before (take at us) t + part b t (get_or us at no_task)
 
-none_left : (b t : ℕ) (us : List Task) → AllByRecursion (λ u. b < u.period.0) us → parts b t us ≡ 0
+none_left : (b t : ℕ) (us : List Task) → All (λ u. b < u.period.0) us → parts b t us ≡ 0
 none_left b t [] a = refl
-none_left b t (u ∷ us) a = omega (arith, part_out b t u a.0, none_left b t us a.1)
+none_left b t (u ∷ us) a = omega (arith, part_out b t u (All-head (λ u. b < u.period.0) u us a), none_left b t us (All-tail (λ u. b < u.period.0) u us a))
 
-lowest : (b : ℕ) (us : List Task) → AllByRecursion (λ u. b < u.period.0) us ⊎ Lowest b us
-lowest b [] = inl tt
+lowest : (b : ℕ) (us : List Task) → All (λ u. b < u.period.0) us ⊎ Lowest b us
+lowest b [] = inl (All-nil (λ (u : Task). b < u.period.0))
 lowest b (u ∷ us) = go (lowest b us)
   where
-    go : AllByRecursion (λ v. b < v.period.0) us ⊎ Lowest b us → AllByRecursion (λ v. b < v.period.0) (u ∷ us) ⊎ Lowest b (u ∷ us)
+    go : All (λ v. b < v.period.0) us ⊎ Lowest b us → All (λ v. b < v.period.0) (u ∷ us) ⊎ Lowest b (u ∷ us)
     go (inl a) = elim (cases_lt b u.period.0) [
-      | inl h ↦ inl (h, a)
+      | inl h ↦ inl (All-cons (λ v. b < v.period.0) u us h a)
       | inr h ↦ inr (record { at = 0; inside = omega arith; short = h; all = λ t. omega (arith, none_left b t us a) })
     ]
     go (inr r) = inr (record { at = suc r.at; inside = omega (arith, r.inside); short = r.short; all = λ t. omega (arith, r.all t, part_le b t u) })
@@ -87,8 +86,8 @@ no_order_fits ts us sorted sh (i, l, bad) = go (lowest b us)
     b : ℕ
     b = (get_or ts i no_task).period.0
 
-    go : AllByRecursion (λ u. b < u.period.0) us ⊎ Lowest b us → Unfit us
-    go (inl a) = absurd (omega (arith, All-get_or (λ u. b < u.period.0) ts i no_task l (all_shuffled (λ u. b < u.period.0) us ts (IsPermutation-sym ts us sh) a)))
+    go : All (λ u. b < u.period.0) us ⊎ Lowest b us → Unfit us
+    go (inl a) = absurd (omega (arith, All-permutation (λ u. b < u.period.0) us ts (IsPermutation-sym ts us sh) a i no_task l))
     go (inr r) = (r.at, r.inside, λ g. bad (g.0, good_from (get_or ts i no_task) (take i ts) g.0 (fits g.0 (good_parts (get_or us r.at no_task) (take r.at us) g.0 g.1))))
       where
         fits : (t : ℕ) → Good (get_or us r.at no_task) (take r.at us) t → Good (get_or ts i no_task) (take i ts) t

@@ -1,7 +1,7 @@
 -- The two parts of the published theorem.
 use Rattle.std.proofs.Common.{◌≡◌, ℕ, ◌<◌, true, ◌⊎◌, List, length, get_or, take, refl, inl, inr, arith}
 use Rattle.std.proofs.lemmas.Bool.{cases_lt}
-use Rattle.std.proofs.ByRecursion.{All-take}
+use Rattle.std.proofs.lemmas.List.Elements.{All-take}
 use Rattle.tasks.specs.declared.task.Task.{Task}
 use Rattle.tasks.specs.Limits.{all_within}
 use Rattle.tasks.specs.Demand.{no_task, FitsAt}
@@ -11,7 +11,7 @@ use Rattle.schedule.specs.Published.{PassesAt, OneTask, WholeList}
 use Rattle.schedule.proofs.Enough.{fitting_place_is_safe}
 use Rattle.schedule.proofs.Needed.{unfit_front_can_miss}
 use Rattle.schedule.proofs.Exactly.{good_or_none, fits_exactly_when_safe}
-use Rattle.schedule.proofs.Published.{good_passes, passes_good}
+use Rattle.schedule.proofs.PublishedTest.{good_passes, passes_good}
 
 fits_passes : (ts : List Task) → all_within ts ≡ true → (k : ℕ) → k < length ts → FitsAt ts k → PassesAt ts k
 fits_passes ts h k l f = let s = all_limits ts h in good_passes (get_or ts k no_task) (take k ts) (All-take Limits k ts s) f

@@ -1,11 +1,13 @@
 -- Permutations: lists with the same tasks, each as often; and a newcomer in its place.
-use Rattle.std.proofs.Common.{◌≡◌, ℕ, ◌+◌, ◌≤◌, Bool, true, false, cond, ◌&&◌, eqb, ◌⊎◌, List, [], ◌∷◌, ◌++◌, count_by, sym, refl, ap, ◌∙◌, subst, inl, inr, arith}
+use Rattle.std.proofs.Common.{◌≡◌, ℕ, ◌+◌, ◌≤◌, Bool, true, false, cond, ◌&&◌, eqb, ◌⊎◌, List, [], ◌∷◌, ◌++◌, count_by, sym, refl, ap, ◌∙◌, subst, inl, inr, arith, length, drop}
 use Rattle.std.specs.List.Sorted.{IsPermutation}
-use Rattle.std.proofs.lemmas.Bool.{and_parts, and_from, eqb-true, eq-eqb, cond-true, cond-false, cond_both, cases_Bool, leb-false, le-leb}
+use Rattle.std.proofs.lemmas.Bool.{and_parts, and_from, eqb-true, eq-eqb, cond-true, cond-false, cond_both, cases_Bool}
 use Rattle.std.proofs.lemmas.List.Sums.{sum_by-cons, sum_by-append}
-use Rattle.std.proofs.lemmas.List.Sorted.{IsPermutation-refl, IsPermutation-trans, IsPermutation-cons, IsPermutation-swap, sum_by-IsPermutation}
+use Rattle.std.proofs.lemmas.List.Sorted.{IsPermutation-refl, IsPermutation-trans, IsPermutation-cons, IsPermutation-insert, sum_by-IsPermutation}
 use Rattle.tasks.specs.declared.task.Task.{Task}
-use Rattle.tasks.specs.Priority.{stands_above, by_priority, joined}
+use Rattle.tasks.specs.Priority.{stands_above, joined}
+use Rattle.tasks.proofs.Priority.{joined_by_priority}
+use Rattle.std.proofs.Math.Seq.{take-append_seam, drop-append_seam}
 use Rattle.schedule.specs.Orders.{PermutationsCountTheSame, JoinedKeepsOrder}
 
 same : Task → Task → Bool
@@ -49,13 +51,13 @@ split x (u ∷ us) h = go (cases_Bool (same x u)) (split x us)
         record { before = u ∷ r.before; behind = r.behind; is = ap (λ l. u ∷ l) r.is }
 
 pub shuffled_two : (x y : Task) (ys : List Task) → IsPermutation (x ∷ (y ∷ ys)) (y ∷ (x ∷ ys))
-shuffled_two x y ys = IsPermutation-swap (x ∷ (y ∷ ys)) (y ∷ (x ∷ ys)) 0 1 (omega arith) (omega arith) refl
+shuffled_two x y ys = IsPermutation-insert (y ∷ ys) 1 x
 
 -- the first task goes behind others
 pub shuffled_into : (x : Task) (before behind : List Task) → IsPermutation (x ∷ (before ++ behind)) (before ++ x ∷ behind)
-shuffled_into x [] behind = IsPermutation-refl (x ∷ behind)
-shuffled_into x (y ∷ ys) behind = IsPermutation-trans (x ∷ (y ∷ (ys ++ behind))) (y ∷ (x ∷ (ys ++ behind))) (y ∷ (ys ++ x ∷ behind))
-    (shuffled_two x y (ys ++ behind)) (IsPermutation-cons y (x ∷ (ys ++ behind)) (ys ++ x ∷ behind) (shuffled_into x ys behind))
+shuffled_into x before behind = subst (λ (l : List Task). IsPermutation (x ∷ (before ++ behind)) l)
+    (ap (λ (l : List Task). l ++ x ∷ drop (length before) (before ++ behind)) (take-append_seam before behind) ∙ ap (λ (l : List Task). before ++ x ∷ l) (drop-append_seam before behind))
+    (IsPermutation-insert (before ++ behind) (length before) x)
 
 from_counts : (ts us : List Task) → ((test : Task → Bool) → count_by test us ≡ count_by test ts) → IsPermutation ts us
 from_counts [] [] h = IsPermutation-refl []
@@ -78,23 +80,6 @@ joined_shuffled x [] = IsPermutation-refl (x ∷ [])
 joined_shuffled x (y ∷ ys) = cond_both (stands_above y x) (y ∷ joined x ys) (x ∷ (y ∷ ys)) (λ l. IsPermutation (x ∷ (y ∷ ys)) l)
     (λ e. IsPermutation-trans (x ∷ (y ∷ ys)) (y ∷ (x ∷ ys)) (y ∷ joined x ys) (shuffled_two x y ys) (IsPermutation-cons y (x ∷ ys) (joined x ys) (joined_shuffled x ys)))
     (λ e. IsPermutation-refl (x ∷ (y ∷ ys)))
-
-above_or : (y x : Task) → stands_above y x ≡ false → stands_above x y ≡ true
-above_or y x e = le-leb x.period.0 y.period.0 (omega (arith, leb-false y.period.0 x.period.0 e))
-
-joined_behind : (x y : Task) (ys : List Task) → by_priority (y ∷ ys) ≡ true → stands_above y x ≡ true → by_priority (y ∷ joined x ys) ≡ true
-joined_behind x y [] h a = and_from (stands_above y x) true a refl
-joined_behind x y (z ∷ zs) h a =
-    let p = and_parts (stands_above y z) (by_priority (z ∷ zs)) h in
-    let ih = joined_behind x z zs p.1 in
-    cond_both (stands_above z x) (z ∷ joined x zs) (x ∷ (z ∷ zs)) (λ l. by_priority (y ∷ l) ≡ true)
-    (λ e. and_from (stands_above y z) (by_priority (z ∷ joined x zs)) p.0 (ih e))
-    (λ e. and_from (stands_above y x) (stands_above x z && by_priority (z ∷ zs)) a (and_from (stands_above x z) (by_priority (z ∷ zs)) (above_or z x e) p.1))
-
-pub joined_by_priority : (x : Task) (ts : List Task) → by_priority ts ≡ true → by_priority (joined x ts) ≡ true
-joined_by_priority x [] h = refl
-joined_by_priority x (y ∷ ys) h = cond_both (stands_above y x) (y ∷ joined x ys) (x ∷ (y ∷ ys)) (λ l. by_priority l ≡ true)
-    (λ e. joined_behind x y ys h e) (λ e. and_from (stands_above x y) (by_priority (y ∷ ys)) (above_or y x e) h)
 
 pub joined_keeps_order : JoinedKeepsOrder
 joined_keeps_order x ts = (joined_by_priority x ts, joined_shuffled x ts)

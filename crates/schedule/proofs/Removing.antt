@@ -1,8 +1,9 @@
 -- A task leaves a list: those behind it have one task less above them.
-use Rattle.std.proofs.Common.{◌≡◌, ℕ, zero, suc, ◌<◌, ◌≤◌, true, List, [], ◌∷◌, length, get_or, take, sym, refl, ap, subst, inl, inr, arith}
+use Rattle.std.proofs.Common.{◌≡◌, ℕ, zero, suc, ◌<◌, ◌≤◌, true, List, [], ◌∷◌, length, get_or, take, sym, ap, subst, inl, inr, arith, drop, ◌∙◌, add-one}
 use Rattle.std.specs.List.{remove}
 use Rattle.std.proofs.lemmas.Bool.{cases_lt}
-use Rattle.std.proofs.lemmas.List.Edits.{length-remove}
+use Rattle.std.proofs.lemmas.List.Edits.{length-remove, get_or-remove_below, get_or-remove_above}
+use Rattle.std.proofs.lemmas.List.{take-append-le, take-take, length-take-le}
 use Rattle.tasks.specs.declared.task.Task.{Task}
 use Rattle.tasks.specs.Demand.{work_before, good, no_task}
 use Rattle.tasks.proofs.Goods.{good_parts, good_from}
@@ -10,22 +11,7 @@ use Rattle.schedule.specs.Places.{good_at}
 use Rattle.schedule.specs.Removal.{GoodInstantsStay, RemovalFits}
 
 front_stays : (ts : List Task) (i k : ℕ) → k ≤ i → i < length ts → take k (remove ts i) ≡ take k ts
-front_stays [] i k a b = absurd (omega arith)
-front_stays (x ∷ xs) i zero a b = refl
-front_stays (x ∷ xs) zero (suc k) a b = absurd (omega arith)
-front_stays (x ∷ xs) (suc i) (suc k) a b = ap (λ l. x ∷ l) (front_stays xs i k (omega arith) (omega arith))
-
-before_stays : (ts : List Task) (i k : ℕ) → k < i → i < length ts → get_or (remove ts i) k no_task ≡ get_or ts k no_task
-before_stays [] i k a b = absurd (omega arith)
-before_stays (x ∷ xs) zero k a b = absurd (omega arith)
-before_stays (x ∷ xs) (suc i) zero a b = refl
-before_stays (x ∷ xs) (suc i) (suc k) a b = before_stays xs i k (omega arith) (omega arith)
-
-behind_moves : (ts : List Task) (i k : ℕ) → i ≤ k → i < length ts → get_or (remove ts i) k no_task ≡ get_or ts (suc k) no_task
-behind_moves [] i k a b = absurd (omega arith)
-behind_moves (x ∷ xs) zero k a b = refl
-behind_moves (x ∷ xs) (suc i) zero a b = absurd (omega arith)
-behind_moves (x ∷ xs) (suc i) (suc k) a b = behind_moves xs i k (omega arith) (omega arith)
+front_stays ts i k a b = take-append-le k (take i ts) (drop (suc i) ts) (omega (arith, length-take-le i ts (omega arith))) ∙ take-take k i ts a
 
 lighter : (ts : List Task) (i k t : ℕ) → i ≤ k → i < length ts → work_before (take k (remove ts i)) t ≤ work_before (take (suc k) ts) t
 lighter [] i k t a b = absurd (omega arith)
@@ -42,12 +28,12 @@ good_instants_stay ts i k t l = (before, behind)
   where
     before : k < i → good_at ts k t ≡ true → good_at (remove ts i) k t ≡ true
     before a h =
-        subst (λ (x : Task). good x (take k (remove ts i)) t ≡ true) (sym (before_stays ts i k a l))
+        subst (λ (x : Task). good x (take k (remove ts i)) t ≡ true) (sym (get_or-remove_below ts i no_task k a l))
         (subst (λ (xs : List Task). good (get_or ts k no_task) xs t ≡ true) (sym (front_stays ts i k (omega arith) l)) h)
 
     behind : i ≤ k → good_at ts (suc k) t ≡ true → good_at (remove ts i) k t ≡ true
     behind a h =
-        subst (λ (x : Task). good x (take k (remove ts i)) t ≡ true) (sym (behind_moves ts i k a l))
+        subst (λ (x : Task). good x (take k (remove ts i)) t ≡ true) (sym (get_or-remove_above ts i no_task k a l ∙ ap (λ j. get_or ts j no_task) (add-one k)))
         (good_lighter (get_or ts (suc k) no_task) (take (suc k) ts) (take k (remove ts i)) t (lighter ts i k t a l) h)
 
 pub removal_fits : RemovalFits

@@ -1,9 +1,8 @@
 -- The synchronous releases are lawful, and release each task at every multiple of its period and at no other instant.
-use Rattle.std.proofs.Common.{◌≡◌, ℕ, zero, suc, ◌+◌, ◌*◌, ◌/◌, ◌%◌, ◌<◌, ◌≤◌, true, ◌&&◌, eqb, ◌⊎◌, List, [], ◌∷◌, ◌++◌, length, get_or, take, sym, refl, subst, inl, inr, suc-mul, div-add-mod', zero-add, arith, length-take, get_or-take}
-use Rattle.std.specs.List.{AllByRecursion}
+use Rattle.std.proofs.Common.{◌≡◌, ℕ, zero, suc, ◌+◌, ◌*◌, ◌/◌, ◌%◌, ◌<◌, ◌≤◌, true, ◌&&◌, eqb, ◌⊎◌, List, [], ◌∷◌, ◌++◌, length, get_or, take, sym, refl, subst, inl, inr, suc-mul, div-add-mod', zero-add, arith, length-take, get_or-take, All, ◌∙◌}
 use Rattle.std.proofs.lemmas.Nat.{mul-le}
-use Rattle.std.proofs.lemmas.Bool.{or_left, or_right, or_cases, and_from, eq-eqb, eqb-true, cond_both, cases_lt, false≢true}
-use Rattle.std.proofs.ByRecursion.{All-append, All-weaker}
+use Rattle.std.proofs.lemmas.Bool.{or_left, or_right, and_from, eq-eqb, eqb-true, cond_both, cases_lt}
+use Rattle.std.proofs.lemmas.List.Elements.{All-nil, All-cons, All-head, All-tail, All-append, All-weaker}
 use Rattle.tasks.specs.declared.task.Task.{Task}
 use Rattle.tasks.specs.Demand.{no_task}
 use Rattle.machine.specs.declared.state.Release.{Release}
@@ -11,8 +10,10 @@ use Rattle.machine.specs.Machine.{due}
 use Rattle.machine.specs.Lawful.{lawful}
 use Rattle.schedule.specs.Synchronous.{together, synchronous}
 use Rattle.schedule.specs.Necessary.{SynchronousIsAllMultiples, SynchronousIsLawful}
-use Rattle.schedule.proofs.Counting.{due_find}
-use Rattle.schedule.proofs.Parts.{Within, After, Ordered, lawful_parts, lawful_from}
+use Rattle.machine.proofs.Coming.{due_append}
+use Rattle.machine.proofs.Separated.{Follows}
+use Rattle.machine.proofs.Job.{due_find}
+use Rattle.schedule.proofs.Parts.{Within, Ordered, lawful_parts, lawful_from}
 
 pub multiples_apart : (p a b : ℕ) → a % p ≡ 0 → b % p ≡ 0 → a < b → a + p ≤ b
 multiples_apart p a b ea eb l = go (cases_lt (a / p) (b / p))
@@ -33,23 +34,23 @@ pub record Multiple (us : List Task) (p now : ℕ) (r : Release) : Type 0 where
   pub instant : r.instant.0 ≡ now
   pub whole : now % (get_or us at no_task).period.0 ≡ 0
 
-weaker : (u : Task) (us : List Task) (p now : ℕ) (rs : List Release) → AllByRecursion (Multiple us (suc p) now) rs → AllByRecursion (Multiple (u ∷ us) p now) rs
+weaker : (u : Task) (us : List Task) (p now : ℕ) (rs : List Release) → All (Multiple us (suc p) now) rs → All (Multiple (u ∷ us) p now) rs
 weaker u us p now rs a = All-weaker (Multiple us (suc p) now) (Multiple (u ∷ us) p now)
     (λ r m. record { at = suc m.at; inside = omega (arith, m.inside); place = omega (arith, m.place); instant = m.instant; whole = m.whole }) rs a
 
-together_all : (now p : ℕ) (us : List Task) → AllByRecursion (Multiple us p now) (together now p us)
-together_all now p [] = tt
+together_all : (now p : ℕ) (us : List Task) → All (Multiple us p now) (together now p us)
+together_all now p [] = All-nil (Multiple [] p now)
 together_all now p (u ∷ us) =
     let ih = weaker u us p now (together now (suc p) us) (together_all now (suc p) us) in
-    cond_both (eqb (now % u.period.0) 0) (record { place = p; instant = record { 0 = now } } ∷ together now (suc p) us) (together now (suc p) us) (λ rs. AllByRecursion (Multiple (u ∷ us) p now) rs)
-    (λ e. (record { at = 0; inside = omega arith; place = omega arith; instant = refl; whole = eqb-true (now % u.period.0) 0 e }, ih))
+    cond_both (eqb (now % u.period.0) 0) (record { place = p; instant = record { 0 = now } } ∷ together now (suc p) us) (together now (suc p) us) (λ rs. All (Multiple (u ∷ us) p now) rs)
+    (λ e. All-cons (Multiple (u ∷ us) p now) (record { place = p; instant = record { 0 = now } }) (together now (suc p) us) (record { at = 0; inside = omega arith; place = omega arith; instant = refl; whole = eqb-true (now % u.period.0) 0 e }) ih)
     (λ e. ih)
 
 together_ordered : (ts : List Task) (now p : ℕ) (us : List Task) → Ordered ts (together now p us)
 together_ordered ts now p [] = tt
 together_ordered ts now p (u ∷ us) =
     let ih = together_ordered ts now (suc p) us in
-    let others = All-weaker (Multiple us (suc p) now) (After ts (record { place = p; instant = record { 0 = now } }))
+    let others = All-weaker (Multiple us (suc p) now) (Follows ts (record { place = p; instant = record { 0 = now } }))
     (λ r m. record { later = omega (arith, m.instant); apart = λ e. absurd (omega (arith, m.place)) }) (together now (suc p) us) (together_all now (suc p) us) in
     cond_both (eqb (now % u.period.0) 0) (record { place = p; instant = record { 0 = now } } ∷ together now (suc p) us) (together now (suc p) us) (λ rs. Ordered ts rs)
     (λ e. (others, ih)) (λ e. ih)
@@ -74,18 +75,18 @@ multiple_synced ts now more r m =
 later_synced : (ts : List Task) (now more : ℕ) (r : Release) → Synced ts (suc now) more r → Synced ts now (suc more) r
 later_synced ts now more r s = record { place = s.place; from = omega (arith, s.from); before = omega (arith, s.before); whole = s.whole }
 
-pub sync_all : (ts : List Task) (now more : ℕ) → AllByRecursion (Synced ts now more) (synchronous ts now more)
-sync_all ts now zero = tt
+pub sync_all : (ts : List Task) (now more : ℕ) → All (Synced ts now more) (synchronous ts now more)
+sync_all ts now zero = All-nil (Synced ts now 0)
 sync_all ts now (suc more) = All-append (Synced ts now (suc more)) (together now 0 ts) (synchronous ts (suc now) more)
     (All-weaker (Multiple ts 0 now) (Synced ts now (suc more)) (multiple_synced ts now more) (together now 0 ts) (together_all now 0 ts))
     (All-weaker (Synced ts (suc now) more) (Synced ts now (suc more)) (later_synced ts now more) (synchronous ts (suc now) more) (sync_all ts (suc now) more))
 
-ordered_append : (ts : List Task) (xs ys : List Release) → Ordered ts xs → Ordered ts ys → AllByRecursion (λ x. AllByRecursion (After ts x) ys) xs → Ordered ts (xs ++ ys)
+ordered_append : (ts : List Task) (xs ys : List Release) → Ordered ts xs → Ordered ts ys → All (λ x. All (Follows ts x) ys) xs → Ordered ts (xs ++ ys)
 ordered_append ts [] ys a b c = b
-ordered_append ts (x ∷ xs) ys a b c = (All-append (After ts x) xs ys a.0 c.0, ordered_append ts xs ys a.1 b c.1)
+ordered_append ts (x ∷ xs) ys a b c = (All-append (Follows ts x) xs ys a.0 (All-head (λ x. All (Follows ts x) ys) x xs c), ordered_append ts xs ys a.1 b (All-tail (λ x. All (Follows ts x) ys) x xs c))
 
 -- a release now, and one at a later instant
-now_then : (ts : List Task) (now more : ℕ) (r q : Release) → Multiple ts 0 now r → Synced ts (suc now) more q → After ts r q
+now_then : (ts : List Task) (now more : ℕ) (r q : Release) → Multiple ts 0 now r → Synced ts (suc now) more q → Follows ts r q
 now_then ts now more r q m s = record { later = omega (arith, m.instant, s.from); apart = λ e. far e }
   where
     far : r.place ≡ q.place → r.instant.0 + (get_or ts r.place no_task).period.0 ≤ q.instant.0
@@ -97,8 +98,8 @@ now_then ts now more r q m s = record { later = omega (arith, m.instant, s.from)
 sync_ordered : (ts : List Task) (now more : ℕ) → Ordered ts (synchronous ts now more)
 sync_ordered ts now zero = tt
 sync_ordered ts now (suc more) = ordered_append ts (together now 0 ts) (synchronous ts (suc now) more) (together_ordered ts now 0 ts) (sync_ordered ts (suc now) more)
-    (All-weaker (Multiple ts 0 now) (λ x. AllByRecursion (After ts x) (synchronous ts (suc now) more))
-    (λ r m. All-weaker (Synced ts (suc now) more) (After ts r) (λ q s. now_then ts now more r q m s) (synchronous ts (suc now) more) (sync_all ts (suc now) more))
+    (All-weaker (Multiple ts 0 now) (λ x. All (Follows ts x) (synchronous ts (suc now) more))
+    (λ r m. All-weaker (Synced ts (suc now) more) (Follows ts r) (λ q s. now_then ts now more r q m s) (synchronous ts (suc now) more) (sync_all ts (suc now) more))
     (together now 0 ts) (together_all now 0 ts))
 
 pub synchronous_is_lawful : SynchronousIsLawful
@@ -112,16 +113,16 @@ module _ (m : ℕ) (ts : List Task) where
   front_same : (j : ℕ) → j < length (take m ts) → get_or (take m ts) j no_task ≡ get_or ts j no_task
   front_same j l = get_or-take m ts j no_task (omega (arith, length-take m ts))
 
-  front_within : (horizon : ℕ) (rs : List Release) → AllByRecursion (Within (take m ts) horizon) rs → AllByRecursion (Within ts horizon) rs
+  front_within : (horizon : ℕ) (rs : List Release) → All (Within (take m ts) horizon) rs → All (Within ts horizon) rs
   front_within horizon rs a = All-weaker (Within (take m ts) horizon) (Within ts horizon) (λ r w. record { place = omega (arith, w.place, length-take m ts); before = w.before }) rs a
 
-  front_after : (r : Release) → r.place < length (take m ts) → (rs : List Release) → AllByRecursion (After (take m ts) r) rs → AllByRecursion (After ts r) rs
-  front_after r l rs a = All-weaker (After (take m ts) r) (After ts r)
+  front_after : (r : Release) → r.place < length (take m ts) → (rs : List Release) → All (Follows (take m ts) r) rs → All (Follows ts r) rs
+  front_after r l rs a = All-weaker (Follows (take m ts) r) (Follows ts r)
       (λ q f. record { later = f.later; apart = λ e. subst (λ (z : Task). r.instant.0 + z.period.0 ≤ q.instant.0) (front_same r.place l) (f.apart e) }) rs a
 
-  front_ordered : (horizon : ℕ) (rs : List Release) → AllByRecursion (Within (take m ts) horizon) rs → Ordered (take m ts) rs → Ordered ts rs
+  front_ordered : (horizon : ℕ) (rs : List Release) → All (Within (take m ts) horizon) rs → Ordered (take m ts) rs → Ordered ts rs
   front_ordered horizon [] a o = tt
-  front_ordered horizon (r ∷ rs) a o = (front_after r a.0.place rs o.0, front_ordered horizon rs a.1 o.1)
+  front_ordered horizon (r ∷ rs) a o = (front_after r (All-head (Within (take m ts) horizon) r rs a).place rs o.0, front_ordered horizon rs (All-tail (Within (take m ts) horizon) r rs a) o.1)
 
   pub lawful_front : (horizon : ℕ) (rs : List Release) → lawful (take m ts) horizon rs ≡ true → lawful ts horizon rs ≡ true
   lawful_front horizon rs h = let p = lawful_parts (take m ts) horizon rs h in
@@ -129,15 +130,10 @@ module _ (m : ℕ) (ts : List Task) where
 
 -- every multiple is due
 due_left : (xs ys : List Release) (p t : ℕ) → due xs p t ≡ true → due (xs ++ ys) p t ≡ true
-due_left [] ys p t h = absurd (false≢true h)
-due_left (r ∷ xs) ys p t h = elim (or_cases (eqb r.place p && eqb r.instant.0 t) (due xs p t) h) [
-  | inl e ↦ or_left (eqb r.place p && eqb r.instant.0 t) (due (xs ++ ys) p t) e
-  | inr e ↦ or_right (eqb r.place p && eqb r.instant.0 t) (due (xs ++ ys) p t) (due_left xs ys p t e)
-]
+due_left xs ys p t h = due_append xs ys p t ∙ or_left (due xs p t) (due ys p t) h
 
 due_right : (xs ys : List Release) (p t : ℕ) → due ys p t ≡ true → due (xs ++ ys) p t ≡ true
-due_right [] ys p t h = h
-due_right (r ∷ xs) ys p t h = or_right (eqb r.place p && eqb r.instant.0 t) (due (xs ++ ys) p t) (due_right xs ys p t h)
+due_right xs ys p t h = due_append xs ys p t ∙ or_right (due xs p t) (due ys p t) h
 
 together_due : (now p j : ℕ) (us : List Task) → j < length us → now % (get_or us j no_task).period.0 ≡ 0 → due (together now p us) (p + j) now ≡ true
 together_due now p j [] l h = absurd (omega arith)

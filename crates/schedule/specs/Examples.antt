@@ -1,6 +1,7 @@
 -- Small cases, so that no statement is empty.
 use Rattle.std.specs.Prelude.{◌≡◌, ℕ, true, List, [], ◌∷◌, Some, None}
 use Rattle.tasks.specs.declared.task.Task.{Task}
+use Rattle.tasks.specs.Tasks.{task_of}
 use Rattle.tasks.specs.Limits.{within_limits, all_within}
 use Rattle.tasks.specs.Priority.{by_priority, joined}
 use Rattle.tasks.specs.Demand.{Fits}
@@ -8,20 +9,17 @@ use Rattle.machine.specs.declared.state.Release.{Release}
 use Rattle.machine.specs.Machine.{outcome}
 use Rattle.machine.specs.Lawful.{lawful}
 
--- a task and a release, by their numbers
-abbrev pub task : (number work period : ℕ) → Task
-task number work period = record { number = number; work = record { 0 = work }; period = record { 0 = period } }
-
+-- a release, by its numbers
 abbrev pub release : (place instant : ℕ) → Release
 release place instant = record { place = place; instant = record { 0 = instant } }
 
 -- 2 units each 5 ticks, and below it 3 units each 7 ticks
 abbrev pub light : List Task
-light = task 1 2 5 ∷ task 2 3 7 ∷ []
+light = task_of 1 2 5 ∷ task_of 2 3 7 ∷ []
 
 -- the second has one unit more
 abbrev pub heavy : List Task
-heavy = task 1 2 5 ∷ task 2 4 7 ∷ []
+heavy = task_of 1 2 5 ∷ task_of 2 4 7 ∷ []
 
 -- both released at 0, in either order, and the first again at 5
 abbrev pub first_before : List Release

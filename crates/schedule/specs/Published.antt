@@ -46,11 +46,11 @@ Passes x above = (t : ℕ) × (point x above t ≡ true) × (total_work x above 
 abbrev pub PassesAt : List Task → ℕ → Type 0
 PassesAt ts k = Passes (slice_index_or ts k no_task) (take k ts)
 
--- Theorem 2, for one task: it passes exactly when it is never the one that misses, whatever the line does. It is stated below places that pass, since here a run ends with its first miss:
+-- The published theorem, for one task: it passes exactly when it is never the one that misses, whatever the line does. It is stated below places that pass, since here a run ends with its first miss:
 -- one above that misses first would hide what comes to the task below. (That a place which passes is never the one that misses needs nothing of the others: FittingPlaceIsSafe.)
 abbrev pub OneTask : Type 0
 OneTask = (ts : List Task) → all_within ts ≡ true → (k : ℕ) → k < length ts → ((j : ℕ) → j < k → PassesAt ts j) → PassesAt ts k ↔ NeverMissesAt ts k
 
--- Theorem 2, for the whole list, in any order: each task passes exactly when no task ever misses.
+-- The published theorem, for the whole list, in any order: each task passes exactly when no task ever misses.
 abbrev pub WholeList : Type 0
 WholeList = (ts : List Task) → all_within ts ≡ true → ((k : ℕ) → k < length ts → PassesAt ts k) ↔ NeverMisses ts

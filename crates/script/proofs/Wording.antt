@@ -1,14 +1,13 @@
 -- The word of a line, and what stands behind it.
-use Rattle.std.proofs.Common.{◌≡◌, ℕ, suc, ◌+◌, ◌-◌, ◌<◌, ◌≤◌, true, false, eqb, ltb, leb, List, [], ◌∷◌, ◌++◌, length, get_or, take, drop, Some, None, Option, sym, refl, ap, ◌∙◌, inl, inr, one-add, arith}
-use Rattle.std.proofs.lemmas.List.{length-append, take_at, drop_at, append_assoc, take_rest}
-use Rattle.std.proofs.lemmas.Bool.{cond-true, cond-false, and_parts, and_right, eqb-true, ne_eqb, lt-ltb, le-ltb, le-leb, and_from, cases_Bool}
+use Rattle.std.proofs.Common.{◌≡◌, ℕ, suc, ◌+◌, ◌<◌, false, ltb, List, [], ◌∷◌, ◌++◌, length, take, drop, None, sym, refl, ap, ◌∙◌, inl, inr, one-add, arith}
+use Rattle.std.proofs.lemmas.List.{length-append, take_at, drop_at, append_assoc}
+use Rattle.std.specs.Cmp.Lexicographic.{same_text}
+use Rattle.std.proofs.lemmas.Bool.{cond-true, cond-false, ne_eqb, lt-ltb, le-ltb, cases_Bool}
 use Rattle.script.specs.declared.words.Word.{Word}
 use Rattle.script.specs.declared.words.Word.TheVariants.{Judge, Demand, Share, Rehearse, Trace}
-use Rattle.script.specs.Fields.{Unspaced, numbers_of}
-use Rattle.script.specs.Names.{name_of, same}
-use Rattle.tasks.specs.declared.task.Task.{Task}
-use Rattle.machine.specs.declared.state.Release.{Release}
-use Rattle.script.specs.Calls.{SeenRun, judges, demands, plain_task, tasks_of, releases_of, holds, count_at, run_of, call_of, word_length, word_of, with_numbers, with_word, called}
+use Rattle.script.specs.Fields.{Unspaced}
+use Rattle.script.specs.Names.{name_of}
+use Rattle.script.specs.Calls.{word_length, names, word_of, with_word, called}
 
 past_byte : (b : ℕ) (rest : List ℕ) → (b ≡ 32 → ⊥) → word_length (b ∷ rest) ≡ 1 + word_length rest
 past_byte b rest h = rw (ne_eqb b 32 h)
@@ -38,67 +37,13 @@ called_at line w r e h =
     regroup : (l : List ℕ) → l ++ (32 ∷ r) ≡ (l ++ 32 ∷ []) ++ r
     regroup l = sym (append_assoc l (32 ∷ []) r)
 
-same_true : (xs ys : List ℕ) → same xs ys ≡ true → xs ≡ ys
-same_true [] [] h = refl
-same_true [] (y ∷ ys) h = let z : ◌≡◌ {A = ℕ} 0 1 = cc in absurd (omega arith)
-same_true (x ∷ xs) [] h = let z : ◌≡◌ {A = ℕ} 0 1 = cc in absurd (omega arith)
-same_true (x ∷ xs) (y ∷ ys) h =
-    let p = and_parts (eqb x y) (same xs ys) h in
-    ap (λ k. k ∷ xs) (eqb-true x y p.0) ∙ ap (λ l. y ∷ l) (same_true xs ys p.1)
-
--- the word that a text names
-pub word_is : (text : List ℕ) (w : Word) → text ≡ name_of w → word_of text ≡ Some w
-word_is text Judge e = ap word_of e
-word_is text Demand e = ap word_of e
-word_is text Share e = ap word_of e
-word_is text Rehearse e = ap word_of e
-word_is text Trace e = ap word_of e
-
-not_same : (text : List ℕ) (w : Word) → ((v : Word) → text ≡ name_of v → ⊥) → same text (name_of w) ≡ false
-not_same text w h = elim (cases_Bool (same text (name_of w))) [ inl e ↦ absurd (h w (same_true text (name_of w) e)) | inr e ↦ e ]
+not_named : (text : List ℕ) (w : Word) → ((v : Word) → text ≡ name_of v → ⊥) → names text w ≡ false
+not_named text w h = elim (cases_Bool (names text w)) [ inl e ↦ absurd (h w (same_text text (name_of w) (sym e))) | inr e ↦ e ]
 
 pub word_none : (text : List ℕ) → ((v : Word) → text ≡ name_of v → ⊥) → word_of text ≡ None
 word_none text h =
-    cond-false (same text (name_of Judge)) _ _ (not_same text Judge h) ∙ cond-false (same text (name_of Demand)) _ _ (not_same text Demand h) ∙ cond-false (same text (name_of Share)) _ _ (not_same text Share h) ∙ cond-false (same text (name_of Rehearse)) _ _ (not_same text Rehearse h) ∙ cond-false (same text (name_of Trace)) _ _ (not_same text Trace h)
+    cond-false (names text Judge) _ _ (not_named text Judge h) ∙ cond-false (names text Demand) _ _ (not_named text Demand h) ∙ cond-false (names text Share) _ _ (not_named text Share h) ∙ cond-false (names text Rehearse) _ _ (not_named text Rehearse h) ∙ cond-false (names text Trace) _ _ (not_named text Trace h)
 
--- what numbers after a word make the call no call
-pub with_none : (w : Word) (text : List ℕ) (ns : Option (List ℕ)) → ns ≡ numbers_of text → ns ≡ None → with_word (Some w) text ≡ None
-with_none w text ns e f = ap (with_numbers w) (sym e ∙ f)
-
--- or what call they make
-pub with_some : (w : Word) (text ns : List ℕ) → Some ns ≡ numbers_of text → with_word (Some w) text ≡ call_of w ns
-with_some w text ns e = ap (with_numbers w) (sym e)
-
--- the calls of enough numbers, of which the last are tasks
-module _ (ns : List ℕ) (t : Task) (ys : List Task) (is : t ≡ plain_task (get_or ns 0 0) (get_or ns 1 0)) where
-  pub judge_call : 3 ≤ length ns → true ≡ holds (get_or ns 2 0) (take (length ns - 3) (drop 3 ns)) → ys ≡ tasks_of (take (length ns - 3) (drop 3 ns)) → Some (judges t ys) ≡ call_of Judge ns
-  judge_call l h e =
-      let r = take_rest ns 3 in
-      let b = and_from (leb 3 (length ns)) (holds (get_or ns 2 0) (drop 3 ns)) (le-leb 3 (length ns) l) (ap (holds (get_or ns 2 0)) (sym r) ∙ sym h) in
-      ap (λ x. Some (judges x ys)) is ∙ ap (λ l. Some (judges (plain_task (get_or ns 0 0) (get_or ns 1 0)) l)) (e ∙ ap tasks_of r) ∙ sym (cond-true _ _ None b)
-
-  pub demand_call : 4 ≤ length ns → true ≡ holds (get_or ns 3 0) (take (length ns - 4) (drop 4 ns)) → ys ≡ tasks_of (take (length ns - 4) (drop 4 ns)) → Some (demands t (record { 0 = get_or ns 2 0 }) ys) ≡ call_of Demand ns
-  demand_call l h e =
-      let r = take_rest ns 4 in
-      let b = and_from (leb 4 (length ns)) (holds (get_or ns 3 0) (drop 4 ns)) (le-leb 4 (length ns) l) (ap (holds (get_or ns 3 0)) (sym r) ∙ sym h) in
-      ap (λ x. Some (demands x (record { 0 = get_or ns 2 0 }) ys)) is ∙ ap (λ l. Some (demands (plain_task (get_or ns 0 0) (get_or ns 1 0)) (record { 0 = get_or ns 2 0 }) l)) (e ∙ ap tasks_of r) ∙ sym (cond-true _ _ None b)
-
--- a horizon, tasks and releases, or none where the pairs behind the count are not as many as it says
-module _ (ns : List ℕ) (inside : count_at ns < length ns) where
-  rest : take (length ns - (count_at ns + 1)) (drop (count_at ns + 1) ns) ≡ drop (count_at ns + 1) ns
-  rest = take_rest ns (count_at ns + 1)
-
-  pub no_run : false ≡ holds (get_or ns (count_at ns) 0) (take (length ns - (count_at ns + 1)) (drop (count_at ns + 1) ns)) → None ≡ run_of ns
-  no_run h = sym (cond-false _ _ None (and_right (ltb (count_at ns) (length ns)) (holds (get_or ns (count_at ns) 0) (drop (count_at ns + 1) ns)) (ap (holds (get_or ns (count_at ns) 0)) (sym rest) ∙ sym h)))
-
-  abbrev asked : List Task → List Release → Option SeenRun
-  asked ts rs = Some (record { horizon = record { 0 = get_or ns 0 0 }; tasks = ts; releases = rs })
-
-  pub run_is
-      : true ≡ holds (get_or ns (count_at ns) 0) (take (length ns - (count_at ns + 1)) (drop (count_at ns + 1) ns))
-      → (ts : List Task) (rs : List Release) → ts ≡ tasks_of (take (count_at ns - 2) (drop 2 ns)) → rs ≡ releases_of (take (length ns - (count_at ns + 1)) (drop (count_at ns + 1) ns))
-      → asked ts rs ≡ run_of ns
-  run_is h ts rs e f =
-      let b = and_from (ltb (count_at ns) (length ns)) (holds (get_or ns (count_at ns) 0) (drop (count_at ns + 1) ns)) (lt-ltb (count_at ns) (length ns) inside) (ap (holds (get_or ns (count_at ns) 0)) (sym rest) ∙ sym h) in
-      ap (λ (l : List Task). asked l rs) e ∙ ap (asked (tasks_of (take (count_at ns - 2) (drop 2 ns)))) (f ∙ ap releases_of rest)
-      ∙ sym (cond-true _ _ None b)
+-- a line whose word is none is no call
+pub called_unknown : (line w r : List ℕ) → line ≡ w ++ (32 ∷ r) → Unspaced w → ((v : Word) → w ≡ name_of v → ⊥) → called line ≡ None
+called_unknown line w r e h no_name = called_at line w r e h ∙ ap (λ o. with_word o r) (word_none w no_name)

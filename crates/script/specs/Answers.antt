@@ -1,9 +1,10 @@
 -- What each call is answered.
-use Rattle.std.specs.Prelude.{ℕ, Some, None, Option}
+use Rattle.std.specs.Prelude.{Some, None, Option}
 use Rattle.tasks.specs.Demand.{demand_answer}
 use Rattle.tasks.specs.Share.{share_answer}
 use Rattle.judges.specs.Meanings.{least_good_point, least_good_instant}
 use Rattle.machine.specs.declared.state.Outcome.{Outcome}
+use Rattle.machine.specs.declared.refusal.Refusal.{Refusal}
 use Rattle.machine.specs.Machine.{outcome}
 use Rattle.machine.specs.Refusals.{first_cause}
 use Rattle.script.specs.declared.answers.Answer.{Answer}
@@ -11,9 +12,9 @@ use Rattle.script.specs.declared.answers.Answer.TheVariants as answer
 use Rattle.script.specs.Calls.{SeenRun, Seen, judges, demands, shares, rehearses, traces}
 
 -- how the run ends, unless there is a cause to refuse it
-abbrev pub unless_refused : Option ℕ → Outcome → Answer
+abbrev pub unless_refused : Option Refusal → Outcome → Answer
 unless_refused None o = answer.Ended o
-unless_refused (Some number) o = answer.Refused number
+unless_refused (Some refusal) o = answer.Refused refusal
 
 abbrev pub run_answer : SeenRun → Answer
 run_answer run = unless_refused (first_cause run.tasks run.horizon.0 run.releases) (outcome run.tasks run.horizon.0 run.releases)

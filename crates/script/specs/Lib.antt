@@ -1,5 +1,7 @@
+pub mod NoCalls
 pub mod Names
 pub mod Fields
+pub mod Pairs
 pub mod Calls
 pub mod Answers
 pub mod Lines

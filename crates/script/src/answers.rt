@@ -5,11 +5,11 @@ ghost use Rattle.script.specs.Answers.{run_answer, answer_to};
 
 use crate::calls::{Call, Rehearsal};
 use judges::{Judge, Points, StepUp};
-use machine::{Outcome, rehearse};
+use machine::{Outcome, Refusal, rehearse};
 use tasks::{Ticks, Units, demand_at};
 
 /// What a call is answered.
-#[derive(Clone, Copy)]
+#[derive(Clone, Copy, Debug, PartialEq, Eq)]
 pub enum Answer {
     /// The points judge's instant and the step-up judge's.
     Instants(Option<Ticks>, Option<Ticks>),
@@ -19,17 +19,17 @@ pub enum Answer {
     Share(Option<u32>),
     /// How a run of the machine ended.
     Ended(Outcome),
-    /// The number of the first cause to refuse the run.
-    Refused(u32),
+    /// The first cause to refuse the run.
+    Refused(Refusal),
 }
 
-// How the run of the machine ends, or the number of the first cause to refuse it.
+// How the run of the machine ends, or the first cause to refuse it.
 fn run_answer(run: &Rehearsal) -> Answer
     ensures { result ≡ run_answer (seen_run run.now) }
 {
     match rehearse(run.tasks.as_slice(), run.horizon, run.releases.as_slice()) {
         Ok(outcome) => Answer::Ended(outcome),
-        Err(refusal) => Answer::Refused(refusal.number()),
+        Err(refusal) => Answer::Refused(refusal),
     }
 }
 
@@ -45,7 +45,6 @@ pub fn answer_for(call: &Call) -> Answer
         }
         Call::Demand { task, at, above } => Answer::Demand(demand_at(*task, above.as_slice(), *at)),
         Call::Share { task } => Answer::Share(task.share()),
-        Call::Rehearse(run) => run_answer(run),
-        Call::Trace(run) => run_answer(run),
+        Call::Rehearse(run) | Call::Trace(run) => run_answer(run),
     }
 }

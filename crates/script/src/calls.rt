@@ -1,17 +1,20 @@
 // A call, and how it stands in a line.
-ghost use Rattle.std.specs.Prelude.{◌≡◌, ◌+◌, ◌∷◌, ◌++◌, length, IfOk, MatchOption, ◌==◌};
-ghost use Rattle.std.specs.Option.{option_map};
+ghost use Rattle.std.specs.Prelude.{◌≡◌, ◌∷◌, ◌++◌, MatchOption};
+ghost use Rattle.script.specs.NoCalls.{Reads};
 ghost use Rattle.script.specs.Fields.{Unspaced};
-ghost use Rattle.script.specs.Calls.{plain_task, tasks_of, release_of, releases_of, seen_run, seen_as, run_of, call_of, called};
+ghost use Rattle.script.specs.Calls.{seen_run, seen_as, run_of, call_of, called};
 
 use crate::fields::numbers;
-use crate::words::{Word, word_named};
+use crate::no_call::NoCall;
+use crate::pairs::{counted, counted_alone};
+use crate::words::Word;
 use machine::Release;
-use std::alloc::{AllocError, Global};
-use tasks::{Task, Ticks, Units};
+use std::alloc::Global;
+use std::str::FromStr;
+use tasks::{Task, Ticks};
 
 /// What a rehearsal is asked about: tasks in the order of priority, and releases below a horizon.
-#[derive(Drop)]
+#[derive(Debug, Drop, PartialEq, Eq)]
 pub struct Rehearsal {
     pub horizon: Ticks,
     pub tasks: Vec<Task>,
@@ -19,7 +22,7 @@ pub struct Rehearsal {
 }
 
 /// A call that a script line stands for.
-#[derive(Drop)]
+#[derive(Debug, Drop, PartialEq, Eq)]
 pub enum Call {
     /// What do both judges say of a task below others?
     Judge {
@@ -42,161 +45,43 @@ pub enum Call {
     Trace(Rehearsal),
 }
 
-// A task of the given work and period; scripts give it no number.
-fn task_of(work: u32, period: u32) -> Task
-    ensures { result ≡ plain_task work period }
+// `N C1 T1 .. CN TN K P1 I1 .. PK IK` behind a horizon.
+fn rehearsal_from(alloc: Global, horizon: u32, rest: &[u32]) -> Result<Rehearsal, NoCall>
+    ensures { Reads seen_run (run_of horizon rest.now) result }
 {
-    Task {
-        number: 0,
-        work: Units(work as u64),
-        period: Ticks(period),
-    }
-}
-
-// The tasks that a list of works and periods stands for.
-fn tasks_from(heap: Global, numbers: &[u32]) -> Result<Vec<Task>, AllocError>
-    ensures { IfOk result (λ v. v.items ≡ tasks_of numbers.now) }
-{
-    let mut all = Vec::new(heap);
-    let mut i = 0;
-    while i + 1 < numbers.len() {
-        all.push(task_of(numbers[i], numbers[i + 1]))?;
-        i += 2;
-    }
-    Ok(all)
-}
-
-// A release of the task at a place.
-fn release_at(place: u32, instant: u32) -> Release
-    ensures { result ≡ release_of place instant }
-{
-    Release {
-        place: place as usize,
-        instant: Ticks(instant),
-    }
-}
-
-// The releases that a list of places and instants stands for.
-fn releases_from(heap: Global, numbers: &[u32]) -> Result<Vec<Release>, AllocError>
-    ensures { IfOk result (λ v. v.items ≡ releases_of numbers.now) }
-{
-    let mut all = Vec::new(heap);
-    let mut i = 0;
-    while i + 1 < numbers.len() {
-        all.push(release_at(numbers[i], numbers[i + 1]))?;
-        i += 2;
-    }
-    Ok(all)
-}
-
-// Whether a list holds `count` pairs.
-fn holds_pairs(count: u32, numbers: &[u32]) -> bool
-    ensures { result ≡ (length numbers.now == count + count) }
-{
-    numbers.len() == count as usize + count as usize
-}
-
-// `judge C T N C1 T1 .. CN TN`
-fn judge_from(heap: Global, numbers: &[u32]) -> Result<Option<Call>, AllocError>
-    ensures { IfOk result (λ o. option_map seen_as o ≡ call_of Word.Judge numbers.now) }
-{
-    if numbers.len() < 3 {
-        return Ok(None);
-    }
-    if !holds_pairs(numbers[2], &numbers[3..]) {
-        return Ok(None);
-    }
-    let above = tasks_from(heap, &numbers[3..])?;
-    Ok(Some(Call::Judge {
-        task: task_of(numbers[0], numbers[1]),
-        above,
-    }))
-}
-
-// `demand C T t N C1 T1 .. CN TN`
-fn demand_from(heap: Global, numbers: &[u32]) -> Result<Option<Call>, AllocError>
-    ensures { IfOk result (λ o. option_map seen_as o ≡ call_of Word.Demand numbers.now) }
-{
-    if numbers.len() < 4 {
-        return Ok(None);
-    }
-    if !holds_pairs(numbers[3], &numbers[4..]) {
-        return Ok(None);
-    }
-    let above = tasks_from(heap, &numbers[4..])?;
-    let task = task_of(numbers[0], numbers[1]);
-    Ok(Some(Call::Demand {
-        task,
-        at: Ticks(numbers[2]),
-        above,
-    }))
-}
-
-// `share C T`
-fn share_from(numbers: &[u32]) -> Option<Call>
-    ensures { option_map seen_as result ≡ call_of Word.Share numbers.now }
-{
-    if numbers.len() != 2 {
-        return None;
-    }
-    Some(Call::Share {
-        task: task_of(numbers[0], numbers[1]),
+    let (tasks, behind) = counted(alloc, rest)?;
+    let releases = counted_alone(alloc, behind)?;
+    Ok(Rehearsal {
+        horizon: Ticks(horizon),
+        tasks,
+        releases,
     })
 }
 
-// `H N C1 T1 .. CN TN K P1 I1 .. PK IK`
-fn rehearsal_from(heap: Global, numbers: &[u32]) -> Result<Option<Rehearsal>, AllocError>
-    ensures { IfOk result (λ o. option_map seen_run o ≡ run_of numbers.now) }
+// The call of a word and its numbers: `judge C T N C1 T1 .. CN TN`, `demand C T t N C1 T1 .. CN TN`, `share C T`, `rehearse H ..` and `trace H ..`.
+fn call_from(alloc: Global, word: Word, numbers: &[u32]) -> Result<Call, NoCall>
+    ensures { Reads seen_as (call_of word numbers.now) result }
 {
-    if numbers.len() < 2 {
-        return Ok(None);
-    }
-    let at = 2 + (numbers[1] as usize + numbers[1] as usize);
-    if numbers.len() <= at {
-        return Ok(None);
-    }
-    if !holds_pairs(numbers[at], &numbers[at + 1..]) {
-        return Ok(None);
-    }
-    let tasks = tasks_from(heap, &numbers[2..at])?;
-    let releases = releases_from(heap, &numbers[at + 1..])?;
-    Ok(Some(Rehearsal {
-        horizon: Ticks(numbers[0]),
-        tasks,
-        releases,
-    }))
-}
-
-// `rehearse H N C1 T1 .. CN TN K P1 I1 .. PK IK`
-fn rehearse_from(heap: Global, numbers: &[u32]) -> Result<Option<Call>, AllocError>
-    ensures { IfOk result (λ o. option_map seen_as o ≡ call_of Word.Rehearse numbers.now) }
-{
-    match rehearsal_from(heap, numbers)? {
-        Some(run) => Ok(Some(Call::Rehearse(run))),
-        None => Ok(None),
-    }
-}
-
-// `trace H N C1 T1 .. CN TN K P1 I1 .. PK IK`
-fn trace_from(heap: Global, numbers: &[u32]) -> Result<Option<Call>, AllocError>
-    ensures { IfOk result (λ o. option_map seen_as o ≡ call_of Word.Trace numbers.now) }
-{
-    match rehearsal_from(heap, numbers)? {
-        Some(run) => Ok(Some(Call::Trace(run))),
-        None => Ok(None),
-    }
-}
-
-// The call of a word and its numbers.
-fn call_from(heap: Global, word: Word, numbers: &[u32]) -> Result<Option<Call>, AllocError>
-    ensures { IfOk result (λ o. option_map seen_as o ≡ call_of word numbers.now) }
-{
-    match word {
-        Word::Judge => judge_from(heap, numbers),
-        Word::Demand => demand_from(heap, numbers),
-        Word::Share => Ok(share_from(numbers)),
-        Word::Rehearse => rehearse_from(heap, numbers),
-        Word::Trace => trace_from(heap, numbers),
+    match (word, numbers) {
+        (Word::Judge, [work, period, rest @ ..]) => Ok(Call::Judge {
+            task: Task::of(0, *work, *period),
+            above: counted_alone(alloc, rest)?,
+        }),
+        (Word::Demand, [work, period, at, rest @ ..]) => Ok(Call::Demand {
+            task: Task::of(0, *work, *period),
+            at: Ticks(*at),
+            above: counted_alone(alloc, rest)?,
+        }),
+        (Word::Share, [work, period]) => Ok(Call::Share {
+            task: Task::of(0, *work, *period),
+        }),
+        (Word::Rehearse, [horizon, rest @ ..]) => {
+            Ok(Call::Rehearse(rehearsal_from(alloc, *horizon, rest)?))
+        }
+        (Word::Trace, [horizon, rest @ ..]) => {
+            Ok(Call::Trace(rehearsal_from(alloc, *horizon, rest)?))
+        }
+        _ => Err(NoCall::Unreadable),
     }
 }
 
@@ -207,18 +92,13 @@ pub fn split_word(line: &str) -> Option<(&str, &str)>
     line.split_once(' ')
 }
 
-/// The call that a line stands for, or none.
-pub fn read(heap: Global, line: &str) -> Result<Option<Call>, AllocError>
-    ensures { IfOk result (λ o. option_map seen_as o ≡ called line.now) }
+/// The call that a line stands for.
+#[tactic(auto, using(crate::proofs::Wording::called_none, crate::proofs::Wording::called_unknown))]
+pub fn read(alloc: Global, line: &str) -> Result<Call, NoCall>
+    ensures { Reads seen_as (called line.now) result }
 {
-    let Some((first, rest)) = split_word(line) else {
-        return Ok(None);
-    };
-    let Some(word) = word_named(first) else {
-        return Ok(None);
-    };
-    let Some(all) = numbers(heap, rest.as_bytes())? else {
-        return Ok(None);
-    };
-    call_from(heap, word, all.as_slice())
+    let (first, rest) = split_word(line).ok_or(NoCall::Unreadable)?;
+    let word = Word::from_str(first)?;
+    let all = numbers(alloc, rest.as_bytes())?;
+    call_from(alloc, word, all.as_slice())
 }

@@ -1,8 +1,9 @@
 // The fields of a line, parted by single spaces.
-ghost use Rattle.std.specs.Prelude.{◌≡◌, IfOk, vec_items};
-ghost use Rattle.std.specs.Option.{option_map};
-ghost use Rattle.script.specs.Fields.{step_of, numbers_of};
+ghost use Rattle.std.specs.Prelude.{◌≡◌, vec_items};
+ghost use Rattle.script.specs.NoCalls.{Reads};
+ghost use Rattle.script.specs.Fields.{with_digit, step_of, numbers_of};
 
+use crate::no_call::NoCall;
 use std::alloc::{AllocError, Global};
 
 /// What one more byte does to the number that is being read.
@@ -12,48 +13,44 @@ pub(crate) enum Step {
     Digit(u32),
     /// A space ends it.
     Gap(u32),
-    /// The byte is no part of a 32-bit number.
-    Bad,
 }
 
-// One byte more; `so_far` is the number so far, or none before its first digit.
-fn read_byte(so_far: Option<u32>, b: u8) -> Step
+// A number after one more digit, or none past 32 bits.
+fn with_digit(n: u32, digit: u8) -> Option<u32>
+    ensures { result ≡ with_digit n digit }
+{
+    n.checked_mul(10)?.checked_add(u32::from(digit))
+}
+
+// One byte more; `so_far` is the number so far, or none before its first digit. None where the byte is no part of a 32-bit number.
+fn read_byte(so_far: Option<u32>, b: u8) -> Option<Step>
     ensures { result ≡ step_of so_far b }
 {
     match (so_far, b) {
-        (None, b'0'..=b'9') => Step::Digit((b - b'0') as u32),
-        (Some(n), b'0'..=b'9') => {
-            let more = n as u64 * 10 + (b - b'0') as u64;
-            if more > u32::MAX as u64 {
-                Step::Bad
-            } else {
-                Step::Digit(more as u32)
-            }
-        }
-        (Some(n), b' ') => Step::Gap(n),
-        _ => Step::Bad,
+        (None, b'0'..=b'9') => Some(Step::Digit(u32::from(b - b'0'))),
+        (Some(n), b'0'..=b'9') => with_digit(n, b - b'0').map(Step::Digit),
+        (Some(n), b' ') => Some(Step::Gap(n)),
+        _ => None,
     }
 }
 
-/// The 32-bit numbers that stand in `text`, parted by single spaces, or none where anything else does.
-pub fn numbers(heap: Global, text: &[u8]) -> Result<Option<Vec<u32>>, AllocError>
-    ensures { IfOk result (λ o. option_map vec_items o ≡ numbers_of text.now) }
+/// The 32-bit numbers that stand in `text`, parted by single spaces.
+pub fn numbers(alloc: Global, text: &[u8]) -> Result<Vec<u32>, NoCall>
+    ensures { Reads vec_items (numbers_of text.now) result }
 {
-    let mut all = Vec::new(heap);
+    // A number is read by hand, since `parse` also takes a sign.
+    let mut all = Vec::new(alloc);
     let mut so_far = None;
     for b in text {
-        match read_byte(so_far, *b) {
+        match read_byte(so_far, *b).ok_or(NoCall::Unreadable)? {
             Step::Digit(n) => so_far = Some(n),
             Step::Gap(n) => {
-                all.push(n)?;
+                all.push(n).map_err(AllocError::from)?;
                 so_far = None;
             }
-            Step::Bad => return Ok(None),
         }
     }
-    let Some(last) = so_far else {
-        return Ok(None);
-    };
-    all.push(last)?;
-    Ok(Some(all))
+    all.push(so_far.ok_or(NoCall::Unreadable)?)
+        .map_err(AllocError::from)?;
+    Ok(all)
 }

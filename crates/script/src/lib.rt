@@ -5,10 +5,13 @@ mod answers;
 mod calls;
 mod fields;
 mod lines;
+mod no_call;
+mod pairs;
 mod words;
 
 pub use answers::{Answer, answer_for};
 pub use calls::{Call, Rehearsal, read, split_word};
 pub use fields::numbers;
 pub use lines::reply;
-pub use words::{Word, word_named};
+pub use no_call::NoCall;
+pub use words::Word;

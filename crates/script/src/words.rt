@@ -1,9 +1,13 @@
 // The words that calls begin with.
-ghost use Rattle.std.specs.Prelude.{◌≡◌, MatchOption, ◌≢◌};
+ghost use Rattle.std.specs.Prelude.{◌≡◌, ◌≢◌, MatchResult};
+ghost use Rattle.script.specs.declared.no_call.NoCall.TheVariants.{Unreadable};
 ghost use Rattle.script.specs.Names.{name_of};
 
+use crate::no_call::NoCall;
+use std::str::FromStr;
+
 /// The word of a call.
-#[derive(Clone, Copy)]
+#[derive(Clone, Copy, Debug, PartialEq, Eq)]
 pub enum Word {
     Judge,
     Demand,
@@ -12,16 +16,19 @@ pub enum Word {
     Trace,
 }
 
-/// The word that stands in `text`, or none.
-pub fn word_named(text: &str) -> Option<Word>
-    ensures { MatchOption result ((w : Word) → text.now ≢ name_of w) (λ w. text.now ≡ name_of w) }
-{
-    match text {
-        "judge" => Some(Word::Judge),
-        "demand" => Some(Word::Demand),
-        "share" => Some(Word::Share),
-        "rehearse" => Some(Word::Rehearse),
-        "trace" => Some(Word::Trace),
-        _ => None,
+impl FromStr for Word {
+    type Err = NoCall;
+
+    fn from_str(text: &str) -> Result<Word, NoCall>
+        ensures { MatchResult result (λ w. text.now ≡ name_of w) (λ e. (e ≡ Unreadable) × ((w : Word) → text.now ≢ name_of w)) }
+    {
+        match text {
+            "judge" => Ok(Word::Judge),
+            "demand" => Ok(Word::Demand),
+            "share" => Ok(Word::Share),
+            "rehearse" => Ok(Word::Rehearse),
+            "trace" => Ok(Word::Trace),
+            _ => Err(NoCall::Unreadable),
+        }
     }
 }

@@ -1,8 +1,13 @@
 -- Every call has an answer.
-use Rattle.std.proofs.Common.{◌≡◌, ℕ, zero, suc, ◌+◌, ◌-◌, ◌<◌, ◌≤◌, Bool, true, false, cond, not, ◌||◌, eqb, ltb, ◌⊎◌, List, [], ◌∷◌, ◌++◌, length, get_or, take, drop, set, Some, None, Ok, Err, Option, Result, sym, refl, ap, ◌∙◌, subst, inl, inr, ⊎_elim, arith, drop-cons}
+use Rattle.std.proofs.Common.{◌≡◌, ℕ, zero, suc, ◌+◌, ◌-◌, ◌<◌, ◌≤◌, Bool, true, false, cond, not, ◌||◌, ◌==◌, position, eqb, ltb, ◌⊎◌, List, [], ◌∷◌, ◌++◌, map, length, get_or, take, drop, set, Some, None, Ok, Err, Option, Result, sym, refl, ap, ◌∙◌, subst, inl, inr, ⊎_elim, arith}
 use Rattle.std.specs.List.{remove}
-use Rattle.std.proofs.lemmas.List.{take-append-drop, drop_all, drop_at, take_at, take-map, map-append, length-take-le, length-append, length-drop, get_or_append_left, get_or-append_right, get_or-set_same}
-use Rattle.std.proofs.lemmas.Bool.{cases_lt, cases_eq, cases_Bool, eqb-true, ltb-false, and_from, not_from_false}
+use Rattle.std.specs.Option.{option_or, unwrap_or}
+use Rattle.std.specs.List.{range_with_len}
+use Rattle.std.proofs.lemmas.Option.{none-some}
+use Rattle.std.proofs.lemmas.List.FromFn.{length-map-range_with_len, get_or-map-range_with_len}
+use Rattle.std.proofs.lemmas.List.{ext_get_or, get_or-map, get_or-drop}
+use Rattle.std.proofs.lemmas.List.{take-append-drop, drop_at, take_at, take-map, map-append, length-take-le, length-append, length-drop, get_or_append_left, get_or-append_right, get_or-set_same}
+use Rattle.std.proofs.lemmas.Bool.{cases_lt, cases_eq, cases_Bool, not_from_false}
 use Rattle.tasks.specs.declared.task.Task.{Task}
 use Rattle.tasks.specs.declared.units.Ticks.{Ticks}
 use Rattle.tasks.specs.Limits.{period_allowed, work_allowed, within_limits}
@@ -14,45 +19,37 @@ use Rattle.seating.specs.declared.seat.Seat.{Seat}
 use Rattle.seating.specs.declared.refusal.AdmitRefusal.{AdmitRefusal}
 use Rattle.seating.specs.declared.refusal.AdmitRefusal.TheVariants.{ShortSheet, NumberZero, BadPeriod, BadWork, AlreadySeated, AllFull, NoTaker}
 use Rattle.seating.specs.declared.refusal.WithdrawRefusal.TheVariants.{NotSeated}
-use Rattle.seating.specs.Refusals.{admitting, number_of}
-use Rattle.seating.specs.Seats.{Lists, tasks_of, no_seat, place_of, holds, seated, all_full, Kept}
+use Rattle.seating.specs.declared.refused.Refused.TheVariants.{Admitting}
+use Rattle.seating.specs.Refusals.{number_of}
+use Rattle.seating.specs.Seats.{Lists, tasks_of, no_seat, no_ticks, place_of, holds, seated, all_full, Kept}
 use Rattle.seating.specs.Admission.{earlier, said, on, as_seen, WouldTake, Entry, Joins, Admits, AdmitsSome}
 use Rattle.seating.specs.Judging.{Given, AllGiven, FirstNone}
 use Rattle.seating.specs.Withdrawal.{SitsAt, WithdrawsSome}
 use Rattle.seating.proofs.Exactly.{takes_exactly, some_or_none}
+use Rattle.seating.proofs.Spotting.{SpotIn, first_spot}
 use Rattle.seating.proofs.Placing.{length-tasks, length-joined, place_le, take-joined, joined_here}
 
 abbrev task_in : Seat → Task
 task_in s = s.task
 
 -- the causes before 8 are refusals of an admission
-same_number : (m n : ℕ) → ◌≡◌ {A = Option ℕ} (Some m) (Some n) → m ≡ n
-same_number m n h = cc
-
-none_is_no : (n : ℕ) → ◌≡◌ {A = Option ℕ} None (Some n) → ⊥
-none_is_no n h = let z : ◌≡◌ {A = ℕ} 0 1 = cc in omega arith
-
 abbrev chain : Bool → Bool → Bool → Bool → Bool → Bool → Option ℕ
-chain b₁ b₂ b₃ b₄ b₅ b₆ = cond b₁ (Some 2) (cond b₂ (Some 3) (cond (not b₃) (Some 4) (cond (not b₄) (Some 5) (cond b₅ (Some 6) (cond b₆ (Some 7) None)))))
+chain b₁ b₂ b₃ b₄ b₅ b₆ = option_or (cond b₁ (Some 2) (cond b₂ (Some 3) (cond (not b₃) (Some 4) (cond (not b₄) (Some 5) None)))) (cond b₅ (Some 6) (cond b₆ (Some 7) None))
 
-has_name : (b₁ b₂ b₃ b₄ b₅ b₆ : Bool) (n : ℕ) → chain b₁ b₂ b₃ b₄ b₅ b₆ ≡ Some n → (e : AdmitRefusal) × (number_of (admitting e) ≡ n)
-has_name true b₂ b₃ b₄ b₅ b₆ n h = (ShortSheet, same_number 2 n h)
-has_name false true b₃ b₄ b₅ b₆ n h = (NumberZero, same_number 3 n h)
-has_name false false false b₄ b₅ b₆ n h = (BadPeriod, same_number 4 n h)
-has_name false false true false b₅ b₆ n h = (BadWork, same_number 5 n h)
-has_name false false true true true b₆ n h = (AlreadySeated, same_number 6 n h)
-has_name false false true true false true n h = (AllFull, same_number 7 n h)
-has_name false false true true false false n h = absurd (none_is_no n h)
+has_name : (b₁ b₂ b₃ b₄ b₅ b₆ : Bool) (n : ℕ) → chain b₁ b₂ b₃ b₄ b₅ b₆ ≡ Some n → (e : AdmitRefusal) × (number_of (Admitting e) ≡ n)
+has_name true b₂ b₃ b₄ b₅ b₆ n h = (ShortSheet, cc)
+has_name false true b₃ b₄ b₅ b₆ n h = (NumberZero, cc)
+has_name false false false b₄ b₅ b₆ n h = (BadPeriod, cc)
+has_name false false true false b₅ b₆ n h = (BadWork, cc)
+has_name false false true true true b₆ n h = (AlreadySeated, cc)
+has_name false false true true false true n h = (AllFull, cc)
+has_name false false true true false false n h = absurd (none-some n h)
 
-passes_parts : (b₁ b₂ b₃ b₄ b₅ b₆ : Bool) → chain b₁ b₂ b₃ b₄ b₅ b₆ ≡ None → (b₁ ≡ false) × (b₃ ≡ true) × (b₄ ≡ true)
-passes_parts true b₂ b₃ b₄ b₅ b₆ h = absurd (none_is_no 2 (sym h))
-passes_parts false true b₃ b₄ b₅ b₆ h = absurd (none_is_no 3 (sym h))
-passes_parts false false false b₄ b₅ b₆ h = absurd (none_is_no 4 (sym h))
-passes_parts false false true false b₅ b₆ h = absurd (none_is_no 5 (sym h))
-passes_parts false false true true b₅ b₆ h = (refl, refl, refl)
+below_next : (P : ℕ → Type 0) (k : ℕ) → ((q : ℕ) → q < k → P q) → P k → (q : ℕ) → q < suc k → P q
+below_next P k all here q lt = ⊎_elim (λ (l : q < k). all q l) (λ (ge : k ≤ q). let same : k ≡ q = omega arith in subst P same here) (cases_lt q k)
 
 -- one processor would take x, or the sheet has something to say of it
-module _ (mean : Meaning) (laws : JudgeLaws mean) (x : Task) (own : within_limits x ≡ true) (ss : List Seat) (held : Kept ss) where
+module _ (meaning : Meaning) (laws : JudgeLaws meaning) (x : Task) (own : within_limits x ≡ true) (ss : List Seat) (held : Kept ss) where
   abbrev all : List Task
   all = joined x (tasks_of ss)
 
@@ -62,89 +59,72 @@ module _ (mean : Meaning) (laws : JudgeLaws mean) (x : Task) (own : within_limit
   place_in : place ≤ length ss
   place_in = omega (arith, place_le x (tasks_of ss), length-tasks ss)
 
-  walk : (d k : ℕ) → k + d ≡ length ss + 1 → place ≤ k → ((j : ℕ) → place ≤ j → j < k → Given mean x ss j) → AllGiven mean x ss ⊎ ((n : ℕ) × FirstNone mean x ss n)
-  walk zero k e lo before = inl (λ j a b. before j a (omega arith))
-  walk (suc d) k e lo before = ⊎_elim
-      (λ (s : Given mean x ss k). walk d (suc k) (omega arith) (omega arith) (λ j a b. ⊎_elim
-      (λ (lt : j < k). before j a lt) (λ (ge : k ≤ j). let same : k ≡ j = omega arith in subst (λ (i : ℕ). Given mean x ss i) same s) (cases_lt j k)))
-      (λ (u : said mean all k ≡ None). inr ((get_or all k no_task).number, record { at = k; below = lo; within = omega arith; none = u; number = refl; before = before }))
-      (some_or_none (said mean all k))
+  walk : (d k : ℕ) → k + d ≡ length ss + 1 → place ≤ k → ((j : ℕ) → j < k → place ≤ j → Given meaning x ss j) → AllGiven meaning x ss ⊎ ((n : ℕ) × FirstNone meaning x ss n)
+  walk zero k e lo given = inl (λ j a b. given j (omega arith) a)
+  walk (suc d) k e lo given = ⊎_elim
+      (λ (s : Given meaning x ss k). walk d (suc k) (omega arith) (omega arith) (below_next (λ j. place ≤ j → Given meaning x ss j) k given (λ _. s)))
+      (λ (u : said meaning all k ≡ None). inr ((get_or all k no_task).number, record { at = k; below = lo; within = omega arith; none = u; number = refl; before = λ j a b. given j b a }))
+      (some_or_none (said meaning all k))
 
   decide : WouldTake x ss ⊎ ((n : ℕ) × Entry x ss n)
   decide = ⊎_elim
       (λ (room : length ss < 32).
-      let d = takes_exactly mean laws x ss own held.0 held.1 room in
+      let d = takes_exactly meaning laws x ss own held.0 held.1 room in
       ⊎_elim
-      (λ (g : AllGiven mean x ss). inl (record { room = room; fits = d.given_fits g }))
-      (λ (f : (n : ℕ) × FirstNone mean x ss n). inr (f.0, inr (room, d.first_unfit f.0 f.1)))
+      (λ (g : AllGiven meaning x ss). inl (record { room = room; fits = d.given_fits g }))
+      (λ (f : (n : ℕ) × FirstNone meaning x ss n). inr (f.0, inr (room, d.first_unfit f.0 f.1)))
       (walk (length ss + 1 - place) place (omega (arith, place_in)) (omega arith) (λ j a b. absurd (omega arith))))
       (λ (full : 32 ≤ length ss). inr (0, inl (full, refl)))
       (cases_lt (length ss) 32)
 
-  is_given : WouldTake x ss → AllGiven mean x ss
-  is_given w = (takes_exactly mean laws x ss own held.0 held.1 w.room).fits_given w.fits
+  is_given : WouldTake x ss → AllGiven meaning x ss
+  is_given w = (takes_exactly meaning laws x ss own held.0 held.1 w.room).fits_given w.fits
 
-  -- the seats from place k on
-  inside : (d k : ℕ) → k + suc d ≡ length ss + 1 → k < length ss + 1
-  inside d k e = omega arith
+  module _ (g : AllGiven meaning x ss) where
+    -- the seat at place k, and those from x down
+    abbrev seat_at : ℕ → Seat
+    seat_at k = record { task = get_or all k no_task; instant = unwrap_or (said meaning all k) no_ticks }
 
-  next : (d k : ℕ) → k + suc d ≡ length ss + 1 → suc k + d ≡ length ss + 1
-  next d k e = omega arith
+    abbrev long : ℕ
+    long = length ss + 1 - place
 
-  lower : (k : ℕ) → place ≤ k → place ≤ suc k
-  lower k lo = omega arith
-
-  module _ (g : AllGiven mean x ss) where
-    abbrev below : (d k : ℕ) → k + d ≡ length ss + 1 → place ≤ k → List Seat
-    below zero k e lo = []
-    below (suc d) k e lo = record { task = get_or all k no_task; instant = (g k lo (inside d k e)).0 } ∷ below d (suc k) (next d k e) (lower k lo)
-
-    below_tasks : (d k : ℕ) (e : k + d ≡ length ss + 1) (lo : place ≤ k) → tasks_of (below d k e lo) ≡ drop k all
-    below_tasks zero k e lo = sym (drop_all k all (omega (arith, length-joined x (tasks_of ss), length-tasks ss)))
-    below_tasks (suc d) k e lo =
-        ap (λ (l : List Task). get_or all k no_task ∷ l) (below_tasks d (suc k) (next d k e) (lower k lo))
-        ∙ sym (drop-cons all k no_task (omega (arith, length-joined x (tasks_of ss), length-tasks ss)))
-
-    below_judged : (d k : ℕ) (e : k + d ≡ length ss + 1) (lo : place ≤ k) (j : ℕ) → j < d → said mean all (k + j) ≡ Some (get_or (below d k e lo) j no_seat).instant
-    below_judged zero k e lo j h = absurd (omega arith)
-    below_judged (suc d) k e lo zero h =
-        let z : k + 0 ≡ k = omega arith in
-        ap (λ (i : ℕ). said mean all i) z ∙ (g k lo (inside d k e)).1
-    below_judged (suc d) k e lo (suc j) h =
-        let z : k + suc j ≡ suc k + j = omega arith in
-        ap (λ (i : ℕ). said mean all i) z ∙ below_judged d (suc k) (next d k e) (lower k lo) j (omega arith)
-
-    whole : place + (length ss + 1 - place) ≡ length ss + 1
-    whole = omega (arith, place_in)
-
-    here : place ≤ place
-    here = omega arith
+    abbrev rest : List Seat
+    rest = map seat_at (range_with_len place long)
 
     abbrev new : List Seat
-    new = take place ss ++ below (length ss + 1 - place) place whole here
+    new = take place ss ++ rest
 
-    new_joins : Joins mean x ss new
+    rest_tasks : tasks_of rest ≡ drop place all
+    rest_tasks =
+        let n = length-map-range_with_len seat_at place long in
+        let m = length-joined x (tasks_of ss) in
+        ext_get_or no_task (tasks_of rest) (drop place all) (omega (arith, length-tasks rest, length-drop place all, length-tasks ss)) (λ k h.
+        let lt : k < long = omega (arith, length-tasks rest) in
+        get_or-map task_in rest k no_seat no_task (omega arith)
+        ∙ ap task_in (get_or-map-range_with_len seat_at place long k (place + k) no_seat lt refl) ∙ sym (get_or-drop place all k no_task))
+
+    new_joins : Joins meaning x ss new
     new_joins =
-        let rest = below (length ss + 1 - place) place whole here in
         let front : length (take place ss) ≡ place = length-take-le place ss place_in in
         record {
           tasks = map-append task_in (take place ss) rest
-              ∙ ap (λ (l : List Task). l ++ tasks_of rest) (sym (take-map task_in place ss) ∙ sym (take-joined x (tasks_of ss) place here))
-              ∙ ap (λ (l : List Task). take place all ++ l) (below_tasks (length ss + 1 - place) place whole here)
+              ∙ ap (λ (l : List Task). l ++ tasks_of rest) (sym (take-map task_in place ss) ∙ sym (take-joined x (tasks_of ss) place (omega arith)))
+              ∙ ap (λ (l : List Task). take place all ++ l) rest_tasks
               ∙ take-append-drop place all;
           above = take_at (take place ss) rest place front;
           judged = λ k lo hi.
-              let z : k ≡ place + (k - place) = omega arith in
-              ap (λ (i : ℕ). said mean all i) z ∙ below_judged (length ss + 1 - place) place whole here (k - place) (omega arith)
-              ∙ ap (λ (s : Seat). Some s.instant) (sym (get_or-append_right (take place ss) rest place k no_seat front lo));
+              let s = g k lo hi in
+              let at : get_or new k no_seat ≡ seat_at k =
+              get_or-append_right (take place ss) rest place k no_seat front lo ∙ get_or-map-range_with_len seat_at place long (k - place) k no_seat (omega arith) (omega arith) in
+              s.1 ∙ ap (λ (o : Option Ticks). Some (unwrap_or o no_ticks)) (sym s.1) ∙ ap (λ (y : Seat). Some y.instant) (sym at);
         }
 
-    own_instant : (t : Ticks) × (mean x (take place (tasks_of ss)) ≡ Some t)
+    own_instant : (t : Ticks) × (meaning x (take place (tasks_of ss)) ≡ Some t)
     own_instant =
-        let s = g place here (omega (arith, place_in)) in (
+        let s = g place (omega arith) (omega (arith, place_in)) in (
           s.0,
-          ap (λ (y : Task). mean y (take place (tasks_of ss))) (sym (joined_here x (tasks_of ss)))
-              ∙ ap (λ (l : List Task). mean (get_or all place no_task) l) (sym (take-joined x (tasks_of ss) place here)) ∙ s.1,
+          ap (λ (y : Task). meaning y (take place (tasks_of ss))) (sym (joined_here x (tasks_of ss)))
+              ∙ ap (λ (l : List Task). meaning (get_or all place no_task) l) (sym (take-joined x (tasks_of ss) place (omega arith))) ∙ s.1,
         )
 
 refuses : (x : Task) (ss : List Seat) (n : ℕ) → Entry x ss n → WouldTake x ss → ⊥
@@ -152,54 +132,50 @@ refuses x ss n (inl full) w = omega (arith, full.0, w.room)
 refuses x ss n (inr f) w = f.1.unfit (w.fits f.1.at f.1.within)
 
 -- the preferred one of the first k, or what the sheet says of each
-module _ (mean : Meaning) (laws : JudgeLaws mean) (bef : Relation) (prefers : PreferenceLaws bef) (b : Lists) (held : (q : ℕ) → q < length b → Kept (on b q)) (x : Task) (own : within_limits x ≡ true) where
+module _ (meaning : Meaning) (laws : JudgeLaws meaning) (before : Relation) (prefers : PreferenceLaws before) (b : Lists) (held : (q : ℕ) → q < length b → Kept (on b q)) (x : Task) (own : within_limits x ≡ true) where
   abbrev AllRefuse : ℕ → Type 0
   AllRefuse k = (q : ℕ) → q < k → (n : ℕ) × Entry x (on b q) n
+
+  abbrev Before : ℕ → ℕ → Type 0
+  Before p q = (q ≡ p → ⊥) → WouldTake x (on b q) → before (as_seen b p) (as_seen b q) ≡ true
 
   record FirstOf (k : ℕ) : Type 0 where
     p : ℕ
     within : p < k
     takes : WouldTake x (on b p)
-    first : (q : ℕ) → q < k → (q ≡ p → ⊥) → WouldTake x (on b q) → bef (as_seen b p) (as_seen b q) ≡ true
+    first : (q : ℕ) → q < k → Before p q
 
   one_more : (k : ℕ) → AllRefuse k ⊎ FirstOf k → WouldTake x (on b k) ⊎ ((n : ℕ) × Entry x (on b k) n) → AllRefuse (suc k) ⊎ FirstOf (suc k)
-  one_more k (inl none) (inr e) = inl (λ q lt. ⊎_elim (λ (l : q < k). none q l) (λ (ge : k ≤ q). let same : k ≡ q = omega arith in subst (λ (i : ℕ). (n : ℕ) × Entry x (on b i) n) same e) (cases_lt q k))
+  one_more k (inl none) (inr e) = inl (below_next (λ q. (n : ℕ) × Entry x (on b q) n) k none e)
   one_more k (inl none) (inl w) = inr (record {
     p = k;
     within = omega arith;
     takes = w;
-    first = λ q lt ne v. let l : q < k = omega arith in absurd (refuses x (on b q) (none q l).0 (none q l).1 v);
+    first = below_next (Before k) k (λ q lt ne v. absurd (refuses x (on b q) (none q lt).0 (none q lt).1 v)) (λ ne v. absurd (ne refl));
   })
-  one_more k (inr f) (inr e) = inr (record {
-    p = f.p;
-    within = omega (arith, f.within);
-    takes = f.takes;
-    first = λ q lt ne v. ⊎_elim (λ (l : q < k). f.first q l ne v)
-        (λ (ge : k ≤ q). let same : q ≡ k = omega arith in absurd (refuses x (on b k) e.0 e.1 (subst (λ (i : ℕ). WouldTake x (on b i)) same v))) (cases_lt q k);
-  })
+  one_more k (inr f) (inr e) = inr (record { p = f.p; within = omega (arith, f.within); takes = f.takes; first = below_next (Before f.p) k f.first (λ ne v. absurd (refuses x (on b k) e.0 e.1 v)) })
   one_more k (inr f) (inl w) = ⊎_elim
-      (λ (new-first : bef (as_seen b k) (as_seen b f.p) ≡ true). inr (record {
+      (λ (new-first : before (as_seen b k) (as_seen b f.p) ≡ true). inr (record {
         p = k;
         within = omega arith;
         takes = w;
-        first = λ q lt ne v. let l : q < k = omega arith in ⊎_elim
-            (λ (same : q ≡ f.p). subst (λ (i : ℕ). bef (as_seen b k) (as_seen b i) ≡ true) (sym same) new-first)
-            (λ (other : q ≡ f.p → ⊥). prefers.chains (as_seen b k) (as_seen b f.p) (as_seen b q) new-first (f.first q l other v)) (cases_eq q f.p);
+        first = below_next (Before k) k
+            (λ q lt ne v. ⊎_elim
+            (λ (same : q ≡ f.p). subst (λ (i : ℕ). before (as_seen b k) (as_seen b i) ≡ true) (sym same) new-first)
+            (λ (other : q ≡ f.p → ⊥). prefers.chains (as_seen b k) (as_seen b f.p) (as_seen b q) new-first (f.first q lt other v)) (cases_eq q f.p))
+            (λ ne v. absurd (ne refl));
       }))
-      (λ (old-first : bef (as_seen b k) (as_seen b f.p) ≡ false). inr (record {
+      (λ (old-first : before (as_seen b k) (as_seen b f.p) ≡ false). inr (record {
         p = f.p;
         within = omega (arith, f.within);
         takes = f.takes;
-        first = λ q lt ne v. ⊎_elim (λ (l : q < k). f.first q l ne v)
-            (λ (ge : k ≤ q). let same : k ≡ q = omega arith in
-            subst (λ (i : ℕ). bef (as_seen b f.p) (as_seen b i) ≡ true) same
-            (prefers.one_of_two (as_seen b f.p) (as_seen b k) (λ (e : f.p ≡ k). omega (arith, f.within)) ∙ not_from_false _ old-first)) (cases_lt q k);
+        first = below_next (Before f.p) k f.first (λ ne v. prefers.one_of_two (as_seen b f.p) (as_seen b k) (λ (e : f.p ≡ k). ne (sym e)) ∙ not_from_false _ old-first);
       }))
-      (cases_Bool (bef (as_seen b k) (as_seen b f.p)))
+      (cases_Bool (before (as_seen b k) (as_seen b f.p)))
 
   choose : (k : ℕ) → k ≤ length b → AllRefuse k ⊎ FirstOf k
   choose zero h = inl (λ q lt. absurd (omega arith))
-  choose (suc k) h = one_more k (choose k (omega arith)) (decide mean laws x own (on b k) (held k (omega arith)))
+  choose (suc k) h = one_more k (choose k (omega arith)) (decide meaning laws x own (on b k) (held k (omega arith)))
 
 -- the entries of the sheet
 record SheetOf (x : Task) (b : Lists) : Type 0 where
@@ -218,9 +194,9 @@ entries x (ss ∷ b) f = go (f zero (omega arith)) (entries x b (λ q h. f (suc 
         each_of zero h = n.1
         each_of (suc q) h = r.each q (omega arith)
 
-module _ (mean : Meaning) (laws : JudgeLaws mean) (bef : Relation) (prefers : PreferenceLaws bef) (b : Lists) (held : (q : ℕ) → q < length b → Kept (on b q)) (x : Task) (sheet : List ℕ) where
+module _ (meaning : Meaning) (laws : JudgeLaws meaning) (before : Relation) (prefers : PreferenceLaws before) (b : Lists) (held : (q : ℕ) → q < length b → Kept (on b q)) (x : Task) (sheet : List ℕ) where
   abbrev Answered : Type 0
-  Answered = (a : Result (ℕ × Ticks) AdmitRefusal) × (sheet' : List ℕ) × (b' : Lists) × Admits mean bef b x sheet a sheet' b'
+  Answered = (a : Result (ℕ × Ticks) AdmitRefusal) × (sheet' : List ℕ) × (b' : Lists) × Admits meaning before b x sheet a sheet' b'
 
   early : (n : ℕ) → earlier b x (length sheet) ≡ Some n → Answered
   early n h =
@@ -228,7 +204,7 @@ module _ (mean : Meaning) (laws : JudgeLaws mean) (bef : Relation) (prefers : Pr
       (Err e.0, sheet, b, inl (record { cause = h ∙ ap (λ (k : ℕ). Some k) (sym e.1); sheet_stays = refl; seats_stay = refl }))
 
   module _ (passes : earlier b x (length sheet) ≡ None) (own : within_limits x ≡ true) (long : length b ≤ length sheet) where
-    away : AllRefuse mean laws bef prefers b held x own (length b) → Answered
+    away : AllRefuse meaning laws before prefers b held x own (length b) → Answered
     away none =
         let r = entries x b none in
         let after = drop (length b) sheet in
@@ -249,12 +225,12 @@ module _ (mean : Meaning) (laws : JudgeLaws mean) (bef : Relation) (prefers : Pr
           ),
         )
 
-    taken : FirstOf mean laws bef prefers b held x own (length b) → Answered
+    taken : FirstOf meaning laws before prefers b held x own (length b) → Answered
     taken f =
         let p = f.p in
-        let g = is_given mean laws x own (on b p) (held p f.within) f.takes in
-        let l = new mean laws x own (on b p) (held p f.within) g in
-        let t = own_instant mean laws x own (on b p) (held p f.within) g in
+        let g = is_given meaning laws x own (on b p) (held p f.within) f.takes in
+        let l = new meaning laws x own (on b p) (held p f.within) g in
+        let t = own_instant meaning laws x own (on b p) (held p f.within) g in
         let same : get_or (set b p l) p [] ≡ l = get_or-set_same b p l [] f.within in (
           Ok (p, t.0),
           sheet,
@@ -263,41 +239,25 @@ module _ (mean : Meaning) (laws : JudgeLaws mean) (bef : Relation) (prefers : Pr
             passes = passes;
             preferred = record { there = f.within; takes = f.takes; first = f.first };
             instant = t.1;
-            joins = subst (λ (k : List Seat). Joins mean x (on b p) k) (sym same) (new_joins mean laws x own (on b p) (held p f.within) g);
+            joins = subst (λ (k : List Seat). Joins meaning x (on b p) k) (sym same) (new_joins meaning laws x own (on b p) (held p f.within) g);
             others = ap (λ (k : List Seat). set b p k) (sym same);
             sheet_stays = refl;
           },
         )
 
     served : Answered
-    served = ⊎_elim away taken (choose mean laws bef prefers b held x own (length b) (omega arith))
+    served = ⊎_elim away taken (choose meaning laws before prefers b held x own (length b) (omega arith))
 
   late : earlier b x (length sheet) ≡ None → Answered
-  late h =
-      let p = passes_parts (ltb (length sheet) (length b)) (eqb x.number 0) (period_allowed x) (work_allowed x) (seated x.number b) (all_full b) h in
-      served h (and_from (period_allowed x) (work_allowed x) p.1 p.2) (ltb-false (length sheet) (length b) p.0)
+  late h = served h (grind arith) (grind arith)
 
   any_answer : Answered
   any_answer = ⊎_elim (λ (s : (n : ℕ) × (earlier b x (length sheet) ≡ Some n)). early s.0 s.1) late (some_or_none (earlier b x (length sheet)))
 
 pub admits_some : AdmitsSome
-admits_some mean laws bef prefers b held x sheet = any_answer mean laws bef prefers b held x sheet
+admits_some meaning laws before prefers b held x sheet = any_answer meaning laws before prefers b held x sheet
 
 -- a withdrawal
-record SpotIn (n : ℕ) (ss : List Seat) : Type 0 where
-  at : ℕ
-  within : at < length ss
-  number : (get_or ss at no_seat).task.number ≡ n
-
-spot_in : (n : ℕ) (ss : List Seat) → SpotIn n ss ⊎ (holds n ss ≡ false)
-spot_in n [] = inr refl
-spot_in n (s ∷ ss) = go (eqb s.task.number n) refl (spot_in n ss)
-  where
-    go : (e : Bool) → eqb s.task.number n ≡ e → SpotIn n ss ⊎ (holds n ss ≡ false) → SpotIn n (s ∷ ss) ⊎ ((e || holds n ss) ≡ false)
-    go true e r = inl (record { at = 0; within = omega arith; number = eqb-true s.task.number n e })
-    go false e (inl r) = inl (record { at = suc r.at; within = omega (arith, r.within); number = r.number })
-    go false e (inr h) = inr h
-
 record SpotOn (n : ℕ) (b : Lists) : Type 0 where
   p : ℕ
   at : ℕ
@@ -305,12 +265,12 @@ record SpotOn (n : ℕ) (b : Lists) : Type 0 where
 
 spot_on : (n : ℕ) (b : Lists) → SpotOn n b ⊎ (seated n b ≡ false)
 spot_on n [] = inr refl
-spot_on n (ss ∷ b) = go (holds n ss) refl (spot_in n ss) (spot_on n b)
+spot_on n (ss ∷ b) = go (position (λ (s : Seat). s.task.number == n) ss) (first_spot n ss _ refl) (spot_on n b)
   where
-    go : (e : Bool) → holds n ss ≡ e → SpotIn n ss ⊎ (holds n ss ≡ false) → SpotOn n b ⊎ (seated n b ≡ false) → SpotOn n (ss ∷ b) ⊎ ((e || seated n b) ≡ false)
-    go e h (inl s) r = inl (record { p = 0; at = s.at; sits = record { there = omega arith; within = s.within; number = s.number } })
-    go e h (inr no_one) (inl r) = inl (record { p = suc r.p; at = r.at; sits = record { there = omega (arith, r.sits.there); within = r.sits.within; number = r.sits.number } })
-    go e h (inr no_one) (inr none) = inr (ap (λ (v : Bool). v || seated n b) (sym h ∙ no_one) ∙ none)
+    go : (o : Option ℕ) → SpotIn n ss o → SpotOn n b ⊎ (seated n b ≡ false) → SpotOn n (ss ∷ b) ⊎ ((holds n ss || seated n b) ≡ false)
+    go (Some at) s r = inl (record { p = 0; at = at; sits = record { there = omega arith; within = s.0; number = s.1 } })
+    go None no_one (inl r) = inl (record { p = suc r.p; at = r.at; sits = record { there = omega (arith, r.sits.there); within = r.sits.within; number = r.sits.number } })
+    go None no_one (inr none) = inr (ap (λ (v : Bool). v || seated n b) no_one ∙ none)
 
 pub withdraws_some : WithdrawsSome
 withdraws_some b n = ⊎_elim

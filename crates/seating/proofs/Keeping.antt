@@ -3,8 +3,8 @@ use Rattle.std.proofs.Common.{◌≡◌, ℕ, zero, suc, ◌+◌, ◌<◌, ◌�
 use Rattle.std.specs.List.{remove}
 use Rattle.std.proofs.lemmas.Bool.{cases_lt}
 use Rattle.std.proofs.lemmas.Bool.Decides.{Decides-below_and}
-use Rattle.std.proofs.lemmas.List.{get_or-take, take-take, take-map, drop-map, map-append, take-append-le, length-take-le}
-use Rattle.std.proofs.lemmas.List.Edits.{length-remove, get_or-remove_below, get_or-remove_above}
+use Rattle.std.proofs.lemmas.List.{get_or-take, take-take, take-map, drop-map, map-append, take_at, length-take-le}
+use Rattle.std.proofs.lemmas.List.Edits.{length-remove, get_or-remove_above}
 use Rattle.tasks.specs.declared.task.Task.{Task}
 use Rattle.tasks.specs.declared.units.Ticks.{Ticks}
 use Rattle.tasks.specs.Priority.{joined}
@@ -24,6 +24,19 @@ each_keeps ss = (Decides-below_and (keeps_good ss) (λ (k : ℕ). keeps_good ss 
 pub all_from_each : (ss : List Seat) → ((k : ℕ) → k < length ss → keeps_good ss k ≡ true) → all_keep_good ss ≡ true
 all_from_each ss = (Decides-below_and (keeps_good ss) (λ (k : ℕ). keeps_good ss k ≡ true) (first_keep_good ss) (λ k. (λ e. e, λ e. e)) refl (λ _. refl) (length ss)).1
 
+-- what a seat keeps depends on it and those before it alone
+keeps_front : (p k : ℕ) (ss : List Seat) → k < p → keeps_good (take p ss) k ≡ keeps_good ss k
+keeps_front p k ss lt =
+    let ts = tasks_of ss in
+    let t = (get_or (take p ss) k no_seat).instant.0 in
+    ap (λ (l : List Task). good (get_or l k no_task) (take k l) t) (sym (take-map task_in p ss))
+    ∙ ap (λ (y : Task). good y (take k (take p ts)) t) (get_or-take p ts k no_task lt)
+    ∙ ap (λ (l : List Task). good (get_or ts k no_task) l t) (take-take k p ts (omega arith))
+    ∙ ap (λ (s : Seat). good (get_or ts k no_task) (take k ts) s.instant.0) (get_or-take p ss k no_seat lt)
+
+same_front : (p k : ℕ) (ss new : List Seat) → take p new ≡ take p ss → k < p → keeps_good new k ≡ keeps_good ss k
+same_front p k ss new e lt = sym (keeps_front p k new lt) ∙ ap (λ (l : List Seat). keeps_good l k) e ∙ keeps_front p k ss lt
+
 -- the seats `new` are ss with x in its place; from there on they keep the instants of us, and above it what they kept
 module _ (x : Task) (ss new : List Seat) (us : List Ticks)
     (tasks : tasks_of new ≡ joined x (tasks_of ss)) (above : take (place_of x (tasks_of ss)) new ≡ take (place_of x (tasks_of ss)) ss)
@@ -42,18 +55,7 @@ module _ (x : Task) (ss new : List Seat) (us : List Ticks)
       let m = length-tasks ss in
       let le = place_le x (tasks_of ss) in
       ⊎_elim
-      (λ (lt : k < place).
-      let ts : take place (tasks_of new) ≡ take place (tasks_of ss) = take-map task_in place new ∙ ap (λ (l : List Seat). map task_in l) above ∙ sym (take-map task_in place ss) in
-      let one : get_or (tasks_of new) k no_task ≡ get_or (tasks_of ss) k no_task =
-      sym (get_or-take place (tasks_of new) k no_task lt) ∙ ap (λ (l : List Task). get_or l k no_task) ts ∙ get_or-take place (tasks_of ss) k no_task lt in
-      let two : take k (tasks_of new) ≡ take k (tasks_of ss) =
-      sym (take-take k place (tasks_of new) (omega arith)) ∙ ap (λ (l : List Task). take k l) ts ∙ take-take k place (tasks_of ss) (omega arith) in
-      let three : get_or new k no_seat ≡ get_or ss k no_seat =
-      sym (get_or-take place new k no_seat lt) ∙ ap (λ (l : List Seat). get_or l k no_seat) above ∙ get_or-take place ss k no_seat lt in
-      ap (λ (y : Task). good y (take k (tasks_of new)) (get_or new k no_seat).instant.0) one
-      ∙ ap (λ (l : List Task). good (get_or (tasks_of ss) k no_task) l (get_or new k no_seat).instant.0) two
-      ∙ ap (λ (s : Seat). good (get_or (tasks_of ss) k no_task) (take k (tasks_of ss)) s.instant.0) three
-      ∙ each_keeps ss old k (omega arith))
+      (λ (lt : k < place). same_front place k ss new above lt ∙ each_keeps ss old k (omega arith))
       (λ (ge : place ≤ k).
       ap (λ (l : List Task). good (get_or l k no_task) (take k l) (get_or new k no_seat).instant.0) tasks
       ∙ ap (λ (u : Ticks). good (get_or (joined x (tasks_of ss)) k no_task) (take k (joined x (tasks_of ss))) u.0) (instants k ge (omega arith))
@@ -86,19 +88,14 @@ good_removed ss at lt old = all_from_each (remove ss at) (λ k h.
     let n = length-remove ss at lt in
     let m = length-tasks ss in
     let e = tasks_removed ss at in
-    ap (λ (l : List Task). good (get_or l k no_task) (take k l) (get_or (remove ss at) k no_seat).instant.0) e ∙
     ⊎_elim
-    (λ (lo : k < at).
-    ap (λ (y : Task). good y (take k (remove ts at)) (get_or (remove ss at) k no_seat).instant.0) (get_or-remove_below ts at no_task k lo (omega arith))
-    ∙ ap (λ (l : List Task). good (get_or ts k no_task) l (get_or (remove ss at) k no_seat).instant.0)
-    (take-append-le k (take at ts) (drop (suc at) ts) (omega (arith, length-take-le at ts (omega arith))) ∙ take-take k at ts (omega arith))
-    ∙ ap (λ (s : Seat). good (get_or ts k no_task) (take k ts) s.instant.0) (get_or-remove_below ss at no_seat k lo lt)
-    ∙ each_keeps ss old k (omega arith))
+    (λ (lo : k < at). same_front at k ss (remove ss at) (take_at (take at ss) (drop (suc at) ss) at (length-take-le at ss (omega arith))) lo ∙ each_keeps ss old k (omega arith))
     (λ (ge : at ≤ k).
     let next : k + 1 ≡ suc k = omega arith in
     let was : good (get_or ts (k + 1) no_task) (take (suc k) ts) (get_or ss (k + 1) no_seat).instant.0 ≡ true =
     ap (λ (j : ℕ). good (get_or ts (k + 1) no_task) (take j ts) (get_or ss (k + 1) no_seat).instant.0) (sym next) ∙ each_keeps ss old (k + 1) (omega arith) in
-    ap (λ (y : Task). good y (take k (remove ts at)) (get_or (remove ss at) k no_seat).instant.0) (get_or-remove_above ts at no_task k ge (omega arith))
+    ap (λ (l : List Task). good (get_or l k no_task) (take k l) (get_or (remove ss at) k no_seat).instant.0) e
+    ∙ ap (λ (y : Task). good y (take k (remove ts at)) (get_or (remove ss at) k no_seat).instant.0) (get_or-remove_above ts at no_task k ge (omega arith))
     ∙ ap (λ (l : List Task). good (get_or ts (k + 1) no_task) l (get_or (remove ss at) k no_seat).instant.0) (take-removed ts at k ge)
     ∙ ap (λ (s : Seat). good (get_or ts (k + 1) no_task) (remove (take (suc k) ts) at) s.instant.0) (get_or-remove_above ss at no_seat k ge lt)
     ∙ good_below_fewer (get_or ts (k + 1) no_task) (take (suc k) ts) at (get_or ss (k + 1) no_seat).instant.0 was)

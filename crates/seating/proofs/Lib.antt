@@ -1,4 +1,5 @@
 pub mod Placing
+pub mod Spotting
 pub mod Limiting
 pub mod Numbering
 pub mod Keeping

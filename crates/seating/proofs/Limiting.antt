@@ -1,7 +1,8 @@
 -- Limits, loads and priority order, of a list that a task joins or leaves.
-use Rattle.std.proofs.Common.{◌≡◌, ℕ, zero, suc, ◌+◌, ◌*◌, ◌<◌, ◌≤◌, true, List, [], ◌∷◌, length, get_or, refl, arith}
+use Rattle.std.proofs.Common.{◌≡◌, ℕ, zero, suc, ◌+◌, ◌*◌, ◌<◌, ◌≤◌, true, List, [], ◌∷◌, length, get_or, refl, ap, ◌∙◌, arith}
 use Rattle.std.specs.List.{remove}
-use Rattle.std.proofs.lemmas.Bool.{cond_both, and_from, and_parts, le-leb, leb-true}
+use Rattle.std.proofs.lemmas.Bool.{and_from, and_parts}
+use Rattle.std.proofs.lemmas.List.Sums.{AllPass-from_list_all, sum_by-le, sum_by-insert, sum_by-remove}
 use Rattle.tasks.specs.declared.task.Task.{Task}
 use Rattle.tasks.specs.Limits.{within_limits, all_within}
 use Rattle.tasks.specs.Share.{share_of}
@@ -9,23 +10,21 @@ use Rattle.tasks.specs.Priority.{stands_above, by_priority, joined}
 use Rattle.tasks.specs.Demand.{no_task, work_before}
 use Rattle.tasks.proofs.Bounds.{limits}
 use Rattle.tasks.proofs.Roundings.{up_least}
-use Rattle.seating.specs.Seats.{load_of}
+use Rattle.seating.specs.Seats.{load_of, place_of}
+use Rattle.seating.proofs.Placing.{joined_at_place}
 
 pub within_joined : (x : Task) (ts : List Task) → within_limits x ≡ true → all_within ts ≡ true → all_within (joined x ts) ≡ true
 within_joined x [] h k = and_from (within_limits x) true h refl
-within_joined x (y ∷ ys) h k =
-    let a = and_parts (within_limits y) (all_within ys) k in
-    cond_both (stands_above y x) (y ∷ joined x ys) (x ∷ (y ∷ ys)) (λ l. all_within l ≡ true)
-    (λ _. and_from (within_limits y) (all_within (joined x ys)) a.0 (within_joined x ys h a.1))
-    (λ _. and_from (within_limits x) (all_within (y ∷ ys)) h k)
+within_joined x (y ∷ ys) h k = grind (arith, within_joined x ys)
 
 pub within_removed : (ts : List Task) (i : ℕ) → all_within ts ≡ true → all_within (remove ts i) ≡ true
 within_removed [] zero k = refl
 within_removed [] (suc i) k = refl
-within_removed (y ∷ ys) zero k = (and_parts (within_limits y) (all_within ys) k).1
-within_removed (y ∷ ys) (suc i) k =
-    let a = and_parts (within_limits y) (all_within ys) k in
-    and_from (within_limits y) (all_within (remove ys i)) a.0 (within_removed ys i a.1)
+within_removed (y ∷ ys) zero k = grind arith
+within_removed (y ∷ ys) (suc i) k = grind (arith, within_removed ys i)
+
+pub within_each : (ts : List Task) → all_within ts ≡ true → (k : ℕ) (d : Task) → k < length ts → within_limits (get_or ts k d) ≡ true
+within_each ts h = AllPass-from_list_all within_limits ts h
 
 pub share_bound : (x : Task) → within_limits x ≡ true → share_of x ≤ 1000000
 share_bound x h =
@@ -33,20 +32,13 @@ share_bound x h =
     up_least (x.work.0 * 1000000) x.period.0 1000000 l.period_from (omega (arith, l.work_to))
 
 pub load_bound : (ts : List Task) → all_within ts ≡ true → load_of ts ≤ length ts * 1000000
-load_bound [] h = omega arith
-load_bound (x ∷ xs) h =
-    let a = and_parts (within_limits x) (all_within xs) h in
-    omega (arith, share_bound x a.0, load_bound xs a.1)
+load_bound ts h = sum_by-le share_of 1000000 ts (λ k d lt. share_bound (get_or ts k d) (within_each ts h k d lt))
 
 pub load_joined : (x : Task) (ts : List Task) → load_of (joined x ts) ≡ share_of x + load_of ts
-load_joined x [] = refl
-load_joined x (y ∷ ys) = let ih = load_joined x ys in
-    cond_both (stands_above y x) (y ∷ joined x ys) (x ∷ (y ∷ ys)) (λ l. load_of l ≡ share_of x + load_of (y ∷ ys)) (λ _. omega arith) (λ _. refl)
+load_joined x ts = ap load_of (joined_at_place x ts) ∙ omega (arith, sum_by-insert share_of ts (place_of x ts) x)
 
 pub load_removed : (ts : List Task) (i : ℕ) → i < length ts → load_of (remove ts i) + share_of (get_or ts i no_task) ≡ load_of ts
-load_removed [] i h = omega arith
-load_removed (y ∷ ys) zero h = omega arith
-load_removed (y ∷ ys) (suc i) h = omega (arith, load_removed ys i (omega arith))
+load_removed ts i h = sum_by-remove share_of ts i no_task h
 
 pub work_removed : (ts : List Task) (i t : ℕ) → work_before (remove ts i) t ≤ work_before ts t
 work_removed [] zero t = omega arith
@@ -55,14 +47,11 @@ work_removed (y ∷ ys) zero t = omega arith
 work_removed (y ∷ ys) (suc i) t = omega (arith, work_removed ys i t)
 
 above_through : (x y z : Task) → stands_above x y ≡ true → stands_above y z ≡ true → stands_above x z ≡ true
-above_through x y z a b =
-    le-leb x.period.0 z.period.0 (omega (arith, leb-true x.period.0 y.period.0 a, leb-true y.period.0 z.period.0 b))
+above_through x y z a b = grind arith
 
 second_leaves : (y x : Task) (xs : List Task) → stands_above y x ≡ true → by_priority (x ∷ xs) ≡ true → by_priority (y ∷ xs) ≡ true
 second_leaves y x [] a h = refl
-second_leaves y x (z ∷ zs) a h =
-    let p = and_parts (stands_above x z) (by_priority (z ∷ zs)) h in
-    and_from (stands_above y z) (by_priority (z ∷ zs)) (above_through y x z a p.0) p.1
+second_leaves y x (z ∷ zs) a h = grind (arith, above_through y x z)
 
 pub priority_removed : (ts : List Task) (i : ℕ) → by_priority ts ≡ true → by_priority (remove ts i) ≡ true
 priority_removed [] zero h = refl
@@ -71,9 +60,5 @@ priority_removed (y ∷ []) zero h = refl
 priority_removed (y ∷ []) (suc zero) h = refl
 priority_removed (y ∷ []) (suc (suc i)) h = refl
 priority_removed (y ∷ (x ∷ xs)) zero h = (and_parts (stands_above y x) (by_priority (x ∷ xs)) h).1
-priority_removed (y ∷ (x ∷ xs)) (suc zero) h =
-    let p = and_parts (stands_above y x) (by_priority (x ∷ xs)) h in
-    second_leaves y x xs p.0 p.1
-priority_removed (y ∷ (x ∷ xs)) (suc (suc i)) h =
-    let p = and_parts (stands_above y x) (by_priority (x ∷ xs)) h in
-    and_from (stands_above y x) (by_priority (remove (x ∷ xs) (suc i))) p.0 (priority_removed (x ∷ xs) (suc i) p.1)
+priority_removed (y ∷ (x ∷ xs)) (suc zero) h = grind (arith, second_leaves y x xs)
+priority_removed (y ∷ (x ∷ xs)) (suc (suc i)) h = grind (arith, priority_removed (x ∷ xs) (suc i))

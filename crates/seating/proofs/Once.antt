@@ -1,7 +1,8 @@
 -- The relation of an admission allows one answer, sheet and table.
-use Rattle.std.proofs.Common.{◌≡◌, ℕ, ◌+◌, ◌-◌, ◌<◌, ◌≤◌, cond, eqb, ◌⊎◌, List, [], length, get_or, set, Some, None, Ok, Err, Option, Result, sym, refl, ap, ◌∙◌, subst, inl, inr, ⊎_elim, arith}
+use Rattle.std.proofs.Common.{◌≡◌, ℕ, ◌+◌, ◌-◌, ◌<◌, ◌≤◌, cond, eqb, List, [], length, get_or, set, Ok, Err, Result, sym, refl, ap, ◌∙◌, subst, inl, inr, ⊎_elim, arith}
 use Rattle.std.proofs.lemmas.List.{ext_get_or, get_or-take, get_or-drop, get_or-map}
-use Rattle.std.proofs.lemmas.Bool.{cases_eq, cases_lt, cases_order, both_ways, not_from_true}
+use Rattle.std.proofs.lemmas.Option.{none-some}
+use Rattle.std.proofs.lemmas.Bool.{cases_eq, cases_lt, cases_order}
 use Rattle.tasks.specs.declared.task.Task.{Task}
 use Rattle.tasks.specs.declared.units.Ticks.{Ticks}
 use Rattle.tasks.specs.Priority.{joined}
@@ -14,58 +15,44 @@ use Rattle.seating.specs.declared.refusal.AdmitRefusal.TheVariants.{ShortSheet, 
 use Rattle.seating.specs.declared.refusal.MakeRefusal.TheVariants.{ProcessorCount}
 use Rattle.seating.specs.declared.refusal.WithdrawRefusal.TheVariants.{NotSeated}
 use Rattle.seating.specs.declared.refusal.QuestionRefusal.TheVariants.{NoProcessor}
-use Rattle.seating.specs.Refusals.{Refused, making, admitting, withdrawing, asking, number_of, NumbersDiffer}
+use Rattle.seating.specs.declared.refused.Refused.{Refused}
+use Rattle.seating.specs.declared.refused.Refused.TheVariants.{Making, Admitting, Withdrawing, Asking}
+use Rattle.seating.specs.Refusals.{number_of, NumbersDiffer}
 use Rattle.seating.specs.Seats.{Lists, tasks_of, no_seat, place_of}
-use Rattle.seating.specs.Admission.{FirstUnfit, Entry, Joins, Granted, TurnedAway, RefusedEarly, Admits, AdmitsOnce, as_seen}
+use Rattle.seating.specs.Admission.{FirstUnfit, Entry, Joins, Granted, TurnedAway, Admits, AdmitsOnce, as_seen}
 use Rattle.seating.proofs.Placing.{length-tasks, length-joined}
 
 same_seat : (s t : Seat) → s.task ≡ t.task → s.instant ≡ t.instant → s ≡ t
 same_seat s t e f = ap (λ (y : Task). record { task = y; instant = s.instant }) e ∙ ap (λ (i : Ticks). record { task = t.task; instant = i }) f
 
-none_some : {X : Type 0} (o : Option X) (x : X) → o ≡ None → o ≡ Some x → ⊥
-none_some o x p q = let z : ◌≡◌ {A = ℕ} 0 1 = cc in omega arith
-
 -- the refusal of a number
 named : ℕ → Refused
 named n =
-    cond (eqb n 1) (making ProcessorCount) (cond (eqb n 2) (admitting ShortSheet) (cond (eqb n 3) (admitting NumberZero) (cond (eqb n 4) (admitting BadPeriod) (cond (eqb n 5) (admitting BadWork)
-    (cond (eqb n 6) (admitting AlreadySeated) (cond (eqb n 7) (admitting AllFull) (cond (eqb n 8) (admitting NoTaker) (cond (eqb n 9) (withdrawing NotSeated) (asking NoProcessor)))))))))
+    cond (eqb n 1) (Making ProcessorCount) (cond (eqb n 2) (Admitting ShortSheet) (cond (eqb n 3) (Admitting NumberZero) (cond (eqb n 4) (Admitting BadPeriod) (cond (eqb n 5) (Admitting BadWork)
+    (cond (eqb n 6) (Admitting AlreadySeated) (cond (eqb n 7) (Admitting AllFull) (cond (eqb n 8) (Admitting NoTaker) (cond (eqb n 9) (Withdrawing NotSeated) (Asking NoProcessor)))))))))
 
 named_back : (a : Refused) → named (number_of a) ≡ a
 unfolding named
-named_back (making ProcessorCount) = refl
-named_back (admitting ShortSheet) = refl
-named_back (admitting NumberZero) = refl
-named_back (admitting BadPeriod) = refl
-named_back (admitting BadWork) = refl
-named_back (admitting AlreadySeated) = refl
-named_back (admitting AllFull) = refl
-named_back (admitting NoTaker) = refl
-named_back (withdrawing NotSeated) = refl
-named_back (asking NoProcessor) = refl
+named_back (Making ProcessorCount) = refl
+named_back (Admitting ShortSheet) = refl
+named_back (Admitting NumberZero) = refl
+named_back (Admitting BadPeriod) = refl
+named_back (Admitting BadWork) = refl
+named_back (Admitting AlreadySeated) = refl
+named_back (Admitting AllFull) = refl
+named_back (Admitting NoTaker) = refl
+named_back (Withdrawing NotSeated) = refl
+named_back (Asking NoProcessor) = refl
 
 pub numbers_differ : NumbersDiffer
 numbers_differ a b e = sym (named_back a) ∙ ap named e ∙ named_back b
 
-admitted : Refused → AdmitRefusal
-admitted (admitting e) = e
-admitted (making e) = NoTaker
-admitted (withdrawing e) = NoTaker
-admitted (asking e) = NoTaker
+same_cause : (e d : AdmitRefusal) → number_of (Admitting e) ≡ number_of (Admitting d) → e ≡ d
+same_cause e d n = let same = numbers_differ (Admitting e) (Admitting d) n in cc
 
-one_error : (a₁ a₂ : Result (ℕ × Ticks) AdmitRefusal) (e d : AdmitRefusal) → a₁ ≡ Err e → a₂ ≡ Err d → number_of (admitting e) ≡ number_of (admitting d) → a₁ ≡ a₂
-unfolding admitted
-one_error a₁ a₂ e d p q n = p ∙ ap (λ (r : Refused). Err (admitted r)) (numbers_differ (admitting e) (admitting d) n) ∙ sym q
-
-module _ (mean : Meaning) (x : Task) (ss : List Seat) where
+module _ (meaning : Meaning) (x : Task) (ss : List Seat) where
   first_unfit_once : (ts : List Task) (m n : ℕ) → FirstUnfit ts m → FirstUnfit ts n → m ≡ n
-  first_unfit_once ts m n f g =
-      ⊎_elim
-      (λ (e : f.at ≡ g.at). f.number ∙ ap (λ (k : ℕ). (get_or ts k no_task).number) e ∙ sym g.number)
-      (⊎_elim
-      (λ (lt : f.at < g.at). absurd (f.unfit (g.before f.at lt)))
-      (λ (lt : g.at < f.at). absurd (g.unfit (f.before g.at lt))))
-      (cases_order f.at g.at)
+  first_unfit_once ts m n f g = grind (arith, f, g, cases_order f.at g.at)
 
   entry_once : (m n : ℕ) → Entry x ss m → Entry x ss n → m ≡ n
   entry_once m n (inl p) (inl q) = omega (arith, p.1, q.1)
@@ -73,11 +60,11 @@ module _ (mean : Meaning) (x : Task) (ss : List Seat) where
   entry_once m n (inr p) (inl q) = absurd (omega (arith, p.0, q.0))
   entry_once m n (inr p) (inr q) = first_unfit_once (joined x (tasks_of ss)) m n p.1 q.1
 
-  long_joined : (new : List Seat) → Joins mean x ss new → length new ≡ length ss + 1
+  long_joined : (new : List Seat) → Joins meaning x ss new → length new ≡ length ss + 1
   long_joined new j =
       omega (arith, length-tasks new, length-tasks ss, ap (length {A = Task}) j.tasks, length-joined x (tasks_of ss))
 
-  joined_once : (n₁ n₂ : List Seat) → Joins mean x ss n₁ → Joins mean x ss n₂ → n₁ ≡ n₂
+  joined_once : (n₁ n₂ : List Seat) → Joins meaning x ss n₁ → Joins meaning x ss n₂ → n₁ ≡ n₂
   joined_once n₁ n₂ j₁ j₂ =
       let l₁ = long_joined n₁ j₁ in
       let l₂ = long_joined n₂ j₂ in
@@ -93,69 +80,47 @@ module _ (mean : Meaning) (x : Task) (ss : List Seat) where
       same_seat (get_or n₁ k no_seat) (get_or n₂ k no_seat) (sym t₁ ∙ ts ∙ t₂) (cc))
       (cases_lt k place))
 
-module _ (mean : Meaning) (bef : Relation) (laws : PreferenceLaws bef) (b : Lists) (x : Task) (sheet : List ℕ) where
-  abbrev Grant : Result (ℕ × Ticks) AdmitRefusal → List ℕ → Lists → Type 0
-  Grant a s b' = (o : ℕ × Ticks) × (a ≡ Ok o) × Granted mean bef b x sheet o.0 o.1 s b'
+module _ (meaning : Meaning) (before : Relation) (laws : PreferenceLaws before) (b : Lists) (x : Task) (sheet : List ℕ) where
+  same_taker : (p q : ℕ) (t u : Ticks) (s₁ s₂ : List ℕ) (b₁ b₂ : Lists) → Granted meaning before b x sheet p t s₁ b₁ → Granted meaning before b x sheet q u s₂ b₂ → p ≡ q
+  same_taker p q t u s₁ s₂ b₁ b₂ f g = elim (cases_eq p q) [
+    | inl e ↦ e
+    | inr ne ↦
+        let a = f.preferred.first q g.preferred.there (λ e. ne (sym e)) g.preferred.takes in
+        let c = g.preferred.first p f.preferred.there ne f.preferred.takes in
+        absurd (grind (arith, laws.one_of_two (as_seen b p) (as_seen b q) ne))
+  ]
 
-  abbrev Turned : Result (ℕ × Ticks) AdmitRefusal → List ℕ → Lists → Type 0
-  Turned a s b' = (e : AdmitRefusal) × (a ≡ Err e) × (number_of (admitting e) ≡ 8) × TurnedAway b x sheet s b'
-
-  abbrev Early : Result (ℕ × Ticks) AdmitRefusal → List ℕ → Lists → Type 0
-  Early a s b' = (e : AdmitRefusal) × (a ≡ Err e) × RefusedEarly b x (number_of (admitting e)) sheet s b'
-
-  split : (a : Result (ℕ × Ticks) AdmitRefusal) (s : List ℕ) (b' : Lists) → Admits mean bef b x sheet a s b' → Grant a s b' ⊎ (Turned a s b' ⊎ Early a s b')
-  split (Ok o) s b' h = inl (o, refl, h)
-  split (Err e) s b' (inl h) = inr (inr (e, refl, h))
-  split (Err e) s b' (inr h) = inr (inl (e, refl, h.0, h.1))
-
-  same_taker : (p q : ℕ) (t u : Ticks) (s₁ s₂ : List ℕ) (b₁ b₂ : Lists) → Granted mean bef b x sheet p t s₁ b₁ → Granted mean bef b x sheet q u s₂ b₂ → p ≡ q
-  same_taker p q t u s₁ s₂ b₁ b₂ f g =
-      ⊎_elim (λ (e : p ≡ q). e)
-      (λ (ne : p ≡ q → ⊥).
-      let a = f.preferred.first q g.preferred.there (λ e. ne (sym e)) g.preferred.takes in
-      let c = g.preferred.first p f.preferred.there ne f.preferred.takes in
-      absurd (both_ways (bef (as_seen b p) (as_seen b q)) (laws.one_of_two (as_seen b p) (as_seen b q) ne ∙ not_from_true _ c) a))
-      (cases_eq p q)
-
-  grants_once : (p q : ℕ) (t u : Ticks) (s₁ s₂ : List ℕ) (b₁ b₂ : Lists) → p ≡ q → Granted mean bef b x sheet p t s₁ b₁ → Granted mean bef b x sheet q u s₂ b₂ → (t ≡ u) × (s₁ ≡ s₂) × (b₁ ≡ b₂)
+  grants_once : (p q : ℕ) (t u : Ticks) (s₁ s₂ : List ℕ) (b₁ b₂ : Lists) → p ≡ q → Granted meaning before b x sheet p t s₁ b₁ → Granted meaning before b x sheet q u s₂ b₂ → (t ≡ u) × (s₁ ≡ s₂) × (b₁ ≡ b₂)
   grants_once p q t u s₁ s₂ b₁ b₂ e f g₀ =
-      let g : Granted mean bef b x sheet p u s₂ b₂ = subst (λ (k : ℕ). Granted mean bef b x sheet k u s₂ b₂) (sym e) g₀ in
+      let g : Granted meaning before b x sheet p u s₂ b₂ = subst (λ (k : ℕ). Granted meaning before b x sheet k u s₂ b₂) (sym e) g₀ in
       let i₁ = f.instant in
       let i₂ = g.instant in
-      let n = joined_once mean x (get_or b p []) (get_or b₁ p []) (get_or b₂ p []) f.joins g.joins in
+      let n = joined_once meaning x (get_or b p []) (get_or b₁ p []) (get_or b₂ p []) f.joins g.joins in
       (cc, f.sheet_stays ∙ sym g.sheet_stays, f.others ∙ ap (λ (l : List Seat). set b p l) n ∙ sym g.others)
 
   sheets_once : (s₁ s₂ : List ℕ) (b₁ b₂ : Lists) → TurnedAway b x sheet s₁ b₁ → TurnedAway b x sheet s₂ b₂ → s₁ ≡ s₂
   sheets_once s₁ s₂ b₁ b₂ f g =
       ext_get_or 0 s₁ s₂ (f.as_long ∙ sym g.as_long) (λ k h. ⊎_elim
-      (λ (lt : k < length b). entry_once mean x (get_or b k []) (get_or s₁ k 0) (get_or s₂ k 0) (f.entries k lt) (g.entries k lt))
+      (λ (lt : k < length b). entry_once meaning x (get_or b k []) (get_or s₁ k 0) (get_or s₂ k 0) (f.entries k lt) (g.entries k lt))
       (λ (ge : length b ≤ k).
       let m = length b in
       let e : m + (k - m) ≡ k = omega arith in
       ap (λ (j : ℕ). get_or s₁ j 0) (sym e) ∙ sym (get_or-drop m s₁ (k - m) 0) ∙ ap (λ (l : List ℕ). get_or l (k - m) 0) (f.rest ∙ sym g.rest) ∙ get_or-drop m s₂ (k - m) 0 ∙ ap (λ (j : ℕ). get_or s₂ j 0) e)
       (cases_lt k (length b)))
 
-  abbrev Same : Result (ℕ × Ticks) AdmitRefusal → Result (ℕ × Ticks) AdmitRefusal → List ℕ → List ℕ → Lists → Lists → Type 0
-  Same a₁ a₂ s₁ s₂ b₁ b₂ = (a₁ ≡ a₂) × (s₁ ≡ s₂) × (b₁ ≡ b₂)
-
-  once : (a₁ a₂ : Result (ℕ × Ticks) AdmitRefusal) (s₁ s₂ : List ℕ) (b₁ b₂ : Lists) → Grant a₁ s₁ b₁ ⊎ (Turned a₁ s₁ b₁ ⊎ Early a₁ s₁ b₁) → Grant a₂ s₂ b₂ ⊎ (Turned a₂ s₂ b₂ ⊎ Early a₂ s₂ b₂) → Same a₁ a₂ s₁ s₂ b₁ b₂
-  once a₁ a₂ s₁ s₂ b₁ b₂ (inl f) (inl g) =
-      let p = same_taker f.0.0 g.0.0 f.0.1 g.0.1 s₁ s₂ b₁ b₂ f.2 g.2 in
-      let r = grants_once f.0.0 g.0.0 f.0.1 g.0.1 s₁ s₂ b₁ b₂ p f.2 g.2 in
-      (f.1 ∙ ap (λ (k : ℕ). Ok (k, f.0.1)) p ∙ ap (λ (t : Ticks). Ok (g.0.0, t)) r.0 ∙ sym g.1, r.1, r.2)
-  once a₁ a₂ s₁ s₂ b₁ b₂ (inl f) (inr (inl g)) = absurd (g.3.nobody f.0.0 f.2.preferred.there f.2.preferred.takes)
-  once a₁ a₂ s₁ s₂ b₁ b₂ (inl f) (inr (inr g)) = absurd (none_some _ _ f.2.passes g.2.cause)
-  once a₁ a₂ s₁ s₂ b₁ b₂ (inr (inl f)) (inl g) = absurd (f.3.nobody g.0.0 g.2.preferred.there g.2.preferred.takes)
-  once a₁ a₂ s₁ s₂ b₁ b₂ (inr (inl f)) (inr (inl g)) = (one_error a₁ a₂ f.0 g.0 f.1 g.1 (f.2 ∙ sym g.2), sheets_once s₁ s₂ b₁ b₂ f.3 g.3, f.3.seats_stay ∙ sym g.3.seats_stay)
-  once a₁ a₂ s₁ s₂ b₁ b₂ (inr (inl f)) (inr (inr g)) = absurd (none_some _ _ f.3.passes g.2.cause)
-  once a₁ a₂ s₁ s₂ b₁ b₂ (inr (inr f)) (inl g) = absurd (none_some _ _ g.2.passes f.2.cause)
-  once a₁ a₂ s₁ s₂ b₁ b₂ (inr (inr f)) (inr (inl g)) = absurd (none_some _ _ g.3.passes f.2.cause)
-  once a₁ a₂ s₁ s₂ b₁ b₂ (inr (inr f)) (inr (inr g)) =
-      let k = f.2.cause in
-      let l = g.2.cause in
-      let same : number_of (admitting f.0) ≡ number_of (admitting g.0) = cc in
-      (one_error a₁ a₂ f.0 g.0 f.1 g.1 same, f.2.sheet_stays ∙ sym g.2.sheet_stays, f.2.seats_stay ∙ sym g.2.seats_stay)
+  once : (a₁ a₂ : Result (ℕ × Ticks) AdmitRefusal) (s₁ s₂ : List ℕ) (b₁ b₂ : Lists) → Admits meaning before b x sheet a₁ s₁ b₁ → Admits meaning before b x sheet a₂ s₂ b₂ → (a₁ ≡ a₂) × (s₁ ≡ s₂) × (b₁ ≡ b₂)
+  once (Ok o) (Ok c) s₁ s₂ b₁ b₂ f g =
+      let p = same_taker o.0 c.0 o.1 c.1 s₁ s₂ b₁ b₂ f g in
+      let r = grants_once o.0 c.0 o.1 c.1 s₁ s₂ b₁ b₂ p f g in
+      (ap (λ (k : ℕ). Ok (k, o.1)) p ∙ ap (λ (t : Ticks). Ok (c.0, t)) r.0, r.1, r.2)
+  once (Ok o) (Err e) s₁ s₂ b₁ b₂ f (inl g) = absurd (none-some _ (sym f.passes ∙ g.cause))
+  once (Ok o) (Err e) s₁ s₂ b₁ b₂ f (inr g) = absurd (g.1.nobody o.0 f.preferred.there f.preferred.takes)
+  once (Err e) (Ok o) s₁ s₂ b₁ b₂ (inl f) g = absurd (none-some _ (sym g.passes ∙ f.cause))
+  once (Err e) (Ok o) s₁ s₂ b₁ b₂ (inr f) g = absurd (f.1.nobody o.0 g.preferred.there g.preferred.takes)
+  once (Err e) (Err d) s₁ s₂ b₁ b₂ (inl f) (inl g) = (ap (λ (c : AdmitRefusal). Err c) (same_cause e d (let k = f.cause in let l = g.cause in cc)), f.sheet_stays ∙ sym g.sheet_stays, f.seats_stay ∙ sym g.seats_stay)
+  once (Err e) (Err d) s₁ s₂ b₁ b₂ (inl f) (inr g) = absurd (none-some _ (sym g.1.passes ∙ f.cause))
+  once (Err e) (Err d) s₁ s₂ b₁ b₂ (inr f) (inl g) = absurd (none-some _ (sym f.1.passes ∙ g.cause))
+  once (Err e) (Err d) s₁ s₂ b₁ b₂ (inr f) (inr g) = (ap (λ (c : AdmitRefusal). Err c) (same_cause e d (f.0 ∙ sym g.0)), sheets_once s₁ s₂ b₁ b₂ f.1 g.1, f.1.seats_stay ∙ sym g.1.seats_stay)
 
 pub admits_once : AdmitsOnce
-admits_once mean bef laws b x sheet a₁ a₂ s₁ s₂ b₁ b₂ h k =
-    once mean bef laws b x sheet a₁ a₂ s₁ s₂ b₁ b₂ (split mean bef laws b x sheet a₁ s₁ b₁ h) (split mean bef laws b x sheet a₂ s₂ b₂ k)
+admits_once meaning before laws b x sheet a₁ a₂ s₁ s₂ b₁ b₂ h k = once meaning before laws b x sheet a₁ a₂ s₁ s₂ b₁ b₂ h k

@@ -1,5 +1,6 @@
 -- What an admission does to the lists of seats, and what it answers.
-use Rattle.std.specs.Prelude.{◌≡◌, ℕ, ◌+◌, ◌<◌, ◌≤◌, true, cond, not, ◌⊎◌, List, [], length, get_or, take, drop, Some, None, Ok, Err, Option, Result, ◌==◌, ◌≢◌, nat_lt, slice_index, slice_index_or, slice_set}
+use Rattle.std.specs.Prelude.{◌≡◌, ℕ, ◌+◌, ◌<◌, ◌≤◌, true, not, if◌then◌else◌, ◌⊎◌, List, [], length, get_or, take, drop, Some, None, Ok, Err, Option, Result, ◌==◌, ◌≢◌, nat_lt, slice_index, slice_set}
+use Rattle.std.specs.Option.{option_or}
 use Rattle.tasks.specs.declared.task.Task.{Task}
 use Rattle.tasks.specs.declared.units.Ticks.{Ticks}
 use Rattle.tasks.specs.Limits.{period_allowed, work_allowed}
@@ -10,23 +11,32 @@ use Rattle.preferences.specs.declared.contender.Contender.{Contender}
 use Rattle.preferences.specs.Laws.{Relation, PreferenceLaws}
 use Rattle.seating.specs.declared.seat.Seat.{Seat}
 use Rattle.seating.specs.declared.refusal.AdmitRefusal.{AdmitRefusal}
-use Rattle.seating.specs.Refusals.{admitting, number_of}
+use Rattle.seating.specs.declared.refused.Refused.TheVariants.{Admitting}
+use Rattle.seating.specs.Refusals.{number_of}
 use Rattle.seating.specs.Seats.{Lists, tasks_of, load_of, no_seat, place_of, seated, all_full, Kept}
 
--- the number of the first cause before 8 that holds, in the order of checking: the lists of seats, the newcomer, the entries of the sheet
-abbrev pub earlier : Lists → Task → ℕ → Option ℕ
-earlier b x entries =
-    cond (nat_lt entries (length b)) (Some 2)
-    (cond (x.number == 0) (Some 3)
-    (cond (not (period_allowed x)) (Some 4)
-    (cond (not (work_allowed x)) (Some 5)
-    (cond (seated x.number b) (Some 6)
-    (cond (all_full b) (Some 7) None)))))
+-- the number of the first cause that shows in the length of the sheet and the newcomer alone, in the order of checking
+abbrev pub bad_call : ℕ → Task → ℕ → Option ℕ
+bad_call processors x entries =
+    if nat_lt entries processors then Some 2 else
+    if x.number == 0 then Some 3 else
+    if not (period_allowed x) then Some 4 else
+    if not (work_allowed x) then Some 5 else None
 
--- a refusal by its number
-abbrev pub numbered : Option AdmitRefusal → Option ℕ
-numbered (Some e) = Some (number_of (admitting e))
-numbered None = None
+-- and then the first that shows in the lists of seats
+abbrev pub bad_lists : Lists → Task → Option ℕ
+bad_lists b x =
+    if seated x.number b then Some 6 else
+    if all_full b then Some 7 else None
+
+-- the number of the first cause before 8 that holds: the lists of seats, the newcomer, the entries of the sheet
+abbrev pub earlier : Lists → Task → ℕ → Option ℕ
+earlier b x entries = option_or (bad_call (length b) x entries) (bad_lists b x)
+
+-- the number of the refusal, if there is one
+abbrev pub refusal_number : {A : Type 0} → Result A AdmitRefusal → Option ℕ
+refusal_number (Ok a) = None
+refusal_number (Err e) = Some (number_of (Admitting e))
 
 -- a processor with the seats ss would take x: it has a free seat, and its tasks fit with x in its place
 pub record WouldTake (x : Task) (ss : List Seat) : Type 0 where
@@ -47,7 +57,7 @@ Entry x ss n = ((32 ≤ length ss) × (n ≡ 0)) ⊎ ((length ss < 32) × FirstU
 
 -- the seats of processor p
 abbrev pub on : Lists → ℕ → List Seat
-on b p = slice_index_or b p []
+on b p = get_or b p []
 
 -- a processor as the preference sees it: its number, and its load before the newcomer
 abbrev pub seen_with : List Seat → ℕ → Contender
@@ -57,27 +67,27 @@ abbrev pub as_seen : Lists → ℕ → Contender
 as_seen b p = seen_with (on b p) p
 
 -- p would take x, and the preference puts it before every other that would
-pub record Preferred (bef : Relation) (b : Lists) (x : Task) (p : ℕ) : Type 0 where
+pub record Preferred (before : Relation) (b : Lists) (x : Task) (p : ℕ) : Type 0 where
   pub there : p < length b
   pub takes : WouldTake x (on b p)
-  pub first : (q : ℕ) → q < length b → (q ≢ p) → WouldTake x (on b q) → bef (as_seen b p) (as_seen b q) ≡ true
+  pub first : (q : ℕ) → q < length b → (q ≢ p) → WouldTake x (on b q) → before (as_seen b p) (as_seen b q) ≡ true
 
 -- what the judge says of the task at place k below those above it
 abbrev pub said : Meaning → List Task → ℕ → Option Ticks
-said mean ts k = mean (slice_index_or ts k no_task) (take k ts)
+said meaning ts k = meaning (get_or ts k no_task) (take k ts)
 
 -- the seats ss with x in its place: x and each seat below it keep what the judge says now, and the seats above stay
-pub record Joins (mean : Meaning) (x : Task) (ss new : List Seat) : Type 0 where
+pub record Joins (meaning : Meaning) (x : Task) (ss new : List Seat) : Type 0 where
   pub tasks : tasks_of new ≡ joined x (tasks_of ss)
   pub above : take (place_of x (tasks_of ss)) new ≡ take (place_of x (tasks_of ss)) ss
-  pub judged : (k : ℕ) → place_of x (tasks_of ss) ≤ k → k < length ss + 1 → said mean (joined x (tasks_of ss)) k ≡ Some (get_or new k no_seat).instant
+  pub judged : (k : ℕ) → place_of x (tasks_of ss) ≤ k → k < length ss + 1 → said meaning (joined x (tasks_of ss)) k ≡ Some (get_or new k no_seat).instant
 
 -- the preferred one takes x: the answer is p and the instant that the judge says; the other processors and the sheet stay
-pub record Granted (mean : Meaning) (bef : Relation) (b : Lists) (x : Task) (sheet : List ℕ) (p : ℕ) (t : Ticks) (sheet' : List ℕ) (b' : Lists) : Type 0 where
+pub record Granted (meaning : Meaning) (before : Relation) (b : Lists) (x : Task) (sheet : List ℕ) (p : ℕ) (t : Ticks) (sheet' : List ℕ) (b' : Lists) : Type 0 where
   pub passes : earlier b x (length sheet) ≡ None
-  pub preferred : Preferred bef b x p
-  pub instant : mean x (take (place_of x (tasks_of (on b p))) (tasks_of (on b p))) ≡ Some t
-  pub joins : Joins mean x (on b p) (on b' p)
+  pub preferred : Preferred before b x p
+  pub instant : meaning x (take (place_of x (tasks_of (on b p))) (tasks_of (on b p))) ≡ Some t
+  pub joins : Joins meaning x (on b p) (on b' p)
   pub others : b' ≡ slice_set b p (on b' p)
   pub sheet_stays : sheet' ≡ sheet
 
@@ -98,19 +108,19 @@ pub record RefusedEarly (b : Lists) (x : Task) (n : ℕ) (sheet sheet' : List �
 
 -- The relation of an admission of x to the lists b: the sheet before, the answer, the sheet and the lists after
 abbrev pub Admits : Meaning → Relation → Lists → Task → List ℕ → Result (ℕ × Ticks) AdmitRefusal → List ℕ → Lists → Type 0
-Admits mean bef b x sheet (Ok a) sheet' b' = Granted mean bef b x sheet a.0 a.1 sheet' b'
-Admits mean bef b x sheet (Err e) sheet' b' =
-    RefusedEarly b x (number_of (admitting e)) sheet sheet' b' ⊎ ((number_of (admitting e) ≡ 8) × TurnedAway b x sheet sheet' b')
+Admits meaning before b x sheet (Ok a) sheet' b' = Granted meaning before b x sheet a.0 a.1 sheet' b'
+Admits meaning before b x sheet (Err e) sheet' b' =
+    RefusedEarly b x (number_of (Admitting e)) sheet sheet' b' ⊎ ((number_of (Admitting e) ≡ 8) × TurnedAway b x sheet sheet' b')
 
 -- For all lists of seats, newcomers and sheets the relation allows at most one answer, sheet and table.
 abbrev pub AdmitsOnce : Type 0
 AdmitsOnce =
-    (mean : Meaning) (bef : Relation) → PreferenceLaws bef → (b : Lists) (x : Task) (sheet : List ℕ)
+    (meaning : Meaning) (before : Relation) → PreferenceLaws before → (b : Lists) (x : Task) (sheet : List ℕ)
     (a₁ a₂ : Result (ℕ × Ticks) AdmitRefusal) (s₁ s₂ : List ℕ) (b₁ b₂ : Lists) →
-    Admits mean bef b x sheet a₁ s₁ b₁ → Admits mean bef b x sheet a₂ s₂ b₂ → (a₁ ≡ a₂) × (s₁ ≡ s₂) × (b₁ ≡ b₂)
+    Admits meaning before b x sheet a₁ s₁ b₁ → Admits meaning before b x sheet a₂ s₂ b₂ → (a₁ ≡ a₂) × (s₁ ≡ s₂) × (b₁ ≡ b₂)
 
 -- With a lawful judge and a lawful preference it allows one, whatever the newcomer and the sheet.
 abbrev pub AdmitsSome : Type 0
 AdmitsSome =
-    (mean : Meaning) → JudgeLaws mean → (bef : Relation) → PreferenceLaws bef → (b : Lists) → ((q : ℕ) → q < length b → Kept (on b q)) → (x : Task) (sheet : List ℕ)
-    → (a : Result (ℕ × Ticks) AdmitRefusal) × (sheet' : List ℕ) × (b' : Lists) × Admits mean bef b x sheet a sheet' b'
+    (meaning : Meaning) → JudgeLaws meaning → (before : Relation) → PreferenceLaws before → (b : Lists) → ((q : ℕ) → q < length b → Kept (on b q)) → (x : Task) (sheet : List ℕ)
+    → (a : Result (ℕ × Ticks) AdmitRefusal) × (sheet' : List ℕ) × (b' : Lists) × Admits meaning before b x sheet a sheet' b'

@@ -1,5 +1,4 @@
 pub mod Seats
-pub mod Spots
 pub mod Refusals
 pub mod Admission
 pub mod Withdrawal

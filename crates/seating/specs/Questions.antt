@@ -1,8 +1,9 @@
 -- What the questions answer, by the lists of seats. They change nothing.
-use Rattle.std.specs.Prelude.{◌≡◌, ℕ, ◌<◌, ◌≤◌, false, List, [], length, Some, None, Ok, Err, Option, Result, slice_index_or}
+use Rattle.std.specs.Prelude.{◌≡◌, ℕ, ◌<◌, ◌≤◌, false, List, [], length, Some, None, Ok, Err, Option, Result, get_or}
 use Rattle.seating.specs.declared.seat.Seat.{Seat}
 use Rattle.seating.specs.declared.refusal.QuestionRefusal.{QuestionRefusal}
-use Rattle.seating.specs.Refusals.{asking, number_of}
+use Rattle.seating.specs.declared.refused.Refused.TheVariants.{Asking}
+use Rattle.seating.specs.Refusals.{number_of}
 use Rattle.seating.specs.Seats.{Lists, tasks_of, load_of, no_seat, seated}
 use Rattle.seating.specs.Withdrawal.{SitsAt}
 
@@ -10,7 +11,7 @@ use Rattle.seating.specs.Withdrawal.{SitsAt}
 pub record FoundAt (b : Lists) (n : ℕ) (seat : Seat) (p : ℕ) : Type 0 where
   pub at : ℕ
   pub sits : SitsAt b n p at
-  pub its_seat : seat ≡ slice_index_or (slice_index_or b p []) at no_seat
+  pub its_seat : seat ≡ get_or (get_or b p []) at no_seat
 
 abbrev pub Finds : Lists → ℕ → Option (Seat × ℕ) → Type 0
 Finds b n (Some a) = FoundAt b n a.0 a.1
@@ -21,12 +22,15 @@ pub record NotThere (b : Lists) (p : ℕ) (refusal : ℕ) : Type 0 where
   pub cause : length b ≤ p
   pub refused : refusal ≡ 10
 
+-- what is asked about processor p is v
+abbrev pub Told : {A : Type 0} → Lists → ℕ → A → Result A QuestionRefusal → Type 0
+Told b p v (Ok a) = (p < length b) × (a ≡ v)
+Told b p v (Err e) = NotThere b p (number_of (Asking e))
+
 -- the load of processor p is the sum of its tasks' shares
 abbrev pub Loads : Lists → ℕ → Result ℕ QuestionRefusal → Type 0
-Loads b p (Ok l) = (p < length b) × (l ≡ load_of (tasks_of (slice_index_or b p [])))
-Loads b p (Err e) = NotThere b p (number_of (asking e))
+Loads b p a = Told b p (load_of (tasks_of (get_or b p []))) a
 
 -- the seats of processor p
 abbrev pub Shows : Lists → ℕ → Result (List Seat) QuestionRefusal → Type 0
-Shows b p (Ok ss) = (p < length b) × (ss ≡ slice_index_or b p [])
-Shows b p (Err e) = NotThere b p (number_of (asking e))
+Shows b p a = Told b p (get_or b p []) a

@@ -1,6 +1,6 @@
 -- The seats of processors as lists: one list a processor, its seats in priority order.
-use Rattle.std.specs.Prelude.{◌≡◌, ℕ, zero, suc, ◌+◌, Bool, true, false, cond, not, ◌&&◌, ◌||◌, List, [], ◌∷◌, ◌++◌, map, length, get_or, take, ◌==◌, nat_le, slice_index_or}
-use Rattle.std.specs.List.{insert}
+use Rattle.std.specs.Prelude.{◌≡◌, ℕ, zero, suc, Bool, true, not, ◌&&◌, List, [], ◌∷◌, map, length, get_or, take, ◌==◌, nat_le, sum_by, take_while, flat_map, insert}
+use Rattle.std.specs.List.{list_all, list_any}
 use Rattle.tasks.specs.declared.task.Task.{Task}
 use Rattle.tasks.specs.declared.units.Ticks.{Ticks}
 use Rattle.tasks.specs.Limits.{all_within}
@@ -29,13 +29,11 @@ with_instant s t = record { task = s.task; instant = t }
 
 -- the load of a processor: the sum of its tasks' shares
 abbrev pub load_of : List Task → ℕ
-load_of [] = 0
-load_of (x ∷ xs) = share_of x + load_of xs
+load_of ts = sum_by share_of ts
 
 -- how many tasks of a list in priority order stand above a newcomer
 abbrev pub place_of : Task → List Task → ℕ
-place_of x [] = 0
-place_of x (y ∷ ys) = cond (stands_above y x) (suc (place_of x ys)) 0
+place_of x ts = length (take_while (λ (y : Task). stands_above y x) ts)
 
 -- a newcomer in its place stands behind exactly those
 abbrev pub JoinedAtPlace : Type 0
@@ -43,21 +41,18 @@ JoinedAtPlace = (x : Task) (ts : List Task) → joined x ts ≡ insert ts (place
 
 -- whether a task of the number n sits on a processor, or on one of several
 abbrev pub holds : ℕ → List Seat → Bool
-holds n [] = false
-holds n (s ∷ ss) = s.task.number == n || holds n ss
+holds n ss = list_any (λ (s : Seat). s.task.number == n) ss
 
 abbrev pub seated : ℕ → Lists → Bool
-seated n [] = false
-seated n (ss ∷ b) = holds n ss || seated n b
+seated n b = list_any (holds n) b
 
 -- whether each processor has 32 tasks
 abbrev pub all_full : Lists → Bool
-all_full [] = true
-all_full (ss ∷ b) = nat_le 32 (length ss) && all_full b
+all_full b = list_all (λ (ss : List Seat). nat_le 32 (length ss)) b
 
 -- whether the seat at place k keeps a good instant of its task below those above it; each of the first n; each seat
 abbrev pub keeps_good : List Seat → ℕ → Bool
-keeps_good ss k = good (slice_index_or (tasks_of ss) k no_task) (take k (tasks_of ss)) (get_or ss k no_seat).instant.0
+keeps_good ss k = good (get_or (tasks_of ss) k no_task) (take k (tasks_of ss)) (get_or ss k no_seat).instant.0
 
 abbrev pub first_keep_good : List Seat → ℕ → Bool
 first_keep_good ss zero = true
@@ -75,13 +70,11 @@ abbrev pub numbers_of : List Task → List ℕ
 numbers_of ts = map (λ (x : Task). x.number) ts
 
 abbrev pub numbers : Lists → List ℕ
-numbers [] = []
-numbers (ss ∷ b) = numbers_of (tasks_of ss) ++ numbers b
+numbers b = flat_map (λ (ss : List Seat). numbers_of (tasks_of ss)) b
 
 -- no number stands in a list twice
 abbrev pub has : ℕ → List ℕ → Bool
-has n [] = false
-has n (k ∷ ks) = k == n || has n ks
+has n ks = list_any (λ (k : ℕ). k == n) ks
 
 abbrev pub all_differ : List ℕ → Bool
 all_differ [] = true

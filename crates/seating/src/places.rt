@@ -1,21 +1,10 @@
 // A newcomer's place among the seats, and where a number sits.
-ghost use Rattle.std.specs.Prelude.{◌≡◌, ◌≤◌, length, ◌==◌, nat_lt};
+ghost use Rattle.std.specs.Prelude.{◌≡◌, ◌≤◌, length, ◌==◌, nat_lt, position};
 ghost use Rattle.tasks.specs.Priority.{stands_above};
-ghost use Rattle.seating.specs.Seats.{tasks_of, place_of, with_instant};
-ghost use Rattle.seating.specs.Spots.{SpotIn};
+ghost use Rattle.seating.specs.Seats.{tasks_of, place_of};
 
 use super::seat::Seat;
-use tasks::{Task, Ticks};
-
-/// A seat with another kept instant.
-pub fn renewed_seat(seat: Seat, instant: Ticks) -> Seat
-    ensures { result ≡ with_instant seat instant }
-{
-    Seat {
-        task: seat.task,
-        instant,
-    }
-}
+use tasks::Task;
 
 // Whether the seat is that of the task of this number.
 fn is_of(seat: Seat, number: u32) -> bool
@@ -24,16 +13,11 @@ fn is_of(seat: Seat, number: u32) -> bool
     seat.task.number == number
 }
 
-/// Where a task of this number sits.
+/// Where the first task of this number sits.
 pub fn position(seats: &[Seat], number: u32) -> Option<usize>
-    ensures { SpotIn number seats.now result }
+    ensures { result ≡ position (λ s. s.task.number == number) seats.now }
 {
-    for i in 0..seats.len() {
-        if is_of(seats[i], number) {
-            return Some(i);
-        }
-    }
-    None
+    seats.iter().position(|seat| is_of(*seat, number))
 }
 
 /// Whether a seat is free.
@@ -44,21 +28,20 @@ pub fn has_room(seats: &[Seat]) -> bool
 }
 
 // Whether a seated task stands above a newcomer: of equal periods the one admitted earlier does.
-fn is_above(seated: Task, x: Task) -> bool
-    ensures { result ≡ stands_above seated x }
+fn is_above(seated: Task, newcomer: Task) -> bool
+    ensures { result ≡ stands_above seated newcomer }
 {
-    seated.period.0 <= x.period.0
+    seated.period.0 <= newcomer.period.0
 }
 
 /// How many seats stand above the newcomer.
-pub fn place(seats: &[Seat], x: Task) -> usize
-    ensures place { result ≡ place_of x (tasks_of seats.now) }
+pub fn place(seats: &[Seat], newcomer: Task) -> usize
+    ensures place { result ≡ place_of newcomer (tasks_of seats.now) }
     ensures within { result ≤ length seats.now }
 {
-    for i in 0..seats.len() {
-        if !is_above(seats[i].task, x) {
-            return i;
-        }
-    }
-    seats.len()
+    seats
+        .iter()
+        .map(|seat| seat.task)
+        .take_while(|seated| is_above(*seated, newcomer))
+        .count()
 }

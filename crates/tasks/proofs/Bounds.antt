@@ -1,10 +1,11 @@
 -- The limits of a task, part by part.
-use Rattle.std.proofs.Common.{◌≡◌, ◌≤◌, true, leb, List, [], ◌∷◌}
-use Rattle.std.specs.List.{AllByRecursion}
-use Rattle.std.proofs.lemmas.Bool.{and_parts, leb-true}
+use Rattle.std.proofs.Common.{◌≡◌, ◌≤◌, true, All, List, arith}
+use Rattle.std.proofs.lemmas.Bool.Decides.{nat_tests}
+use Rattle.std.proofs.lemmas.List.Elements.{All-weaker}
+use Rattle.std.proofs.lemmas.List.Sums.{AllPass-from_list_all}
 use Rattle.tasks.specs.declared.task.Task.{Task}
 use Rattle.tasks.specs.Units.{units_in, one_a_tick}
-use Rattle.tasks.specs.Limits.{period_allowed, work_allowed, within_limits, all_within}
+use Rattle.tasks.specs.Limits.{within_limits, all_within}
 
 pub record Limits (x : Task) : Type 0 where
   pub period_from : 1 ≤ x.period.0
@@ -13,17 +14,7 @@ pub record Limits (x : Task) : Type 0 where
   pub work_to : x.work.0 ≤ units_in one_a_tick x.period.0
 
 pub limits : (x : Task) → within_limits x ≡ true → Limits x
-limits x h =
-    let b = and_parts (period_allowed x) (work_allowed x) h in
-    let p = and_parts (leb 1 x.period.0) (leb x.period.0 1000000) b.0 in
-    let w = and_parts (leb 1 x.work.0) (leb x.work.0 (units_in one_a_tick x.period.0)) b.1 in
-    record {
-      period_from = leb-true 1 x.period.0 p.0;
-      period_to = leb-true x.period.0 1000000 p.1;
-      work_from = leb-true 1 x.work.0 w.0;
-      work_to = leb-true x.work.0 (units_in one_a_tick x.period.0) w.1;
-    }
+limits x h = record { period_from = grind (arith, nat_tests); period_to = grind (arith, nat_tests); work_from = grind (arith, nat_tests); work_to = grind (arith, nat_tests) }
 
-pub all_limits : (xs : List Task) → all_within xs ≡ true → AllByRecursion Limits xs
-all_limits [] h = tt
-all_limits (x ∷ xs) h = let p = and_parts (within_limits x) (all_within xs) h in (limits x p.0, all_limits xs p.1)
+pub all_limits : (xs : List Task) → all_within xs ≡ true → All Limits xs
+all_limits xs h = All-weaker (λ x. within_limits x ≡ true) Limits limits xs (AllPass-from_list_all within_limits xs h)

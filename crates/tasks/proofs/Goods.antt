@@ -1,14 +1,17 @@
 -- Good instants, part by part; and what a demand says of the instants after it.
-use Rattle.std.proofs.Common.{◌≡◌, ℕ, ◌<◌, ◌≤◌, true, false, ◌&&◌, leb, List, [], ◌∷◌, inl, inr, arith}
+use Rattle.std.proofs.Common.{◌≡◌, ℕ, ◌<◌, ◌≤◌, true, false, leb, nat_le, List, [], ◌∷◌, inl, inr, arith}
 use Rattle.std.proofs.lemmas.Nat.{mul-le}
-use Rattle.std.proofs.lemmas.Bool.{and_parts, and_from, leb-true, le-leb, cases_Bool}
+use Rattle.std.proofs.lemmas.List.Elements.{All-weaker}
+use Rattle.std.proofs.lemmas.List.Sums.{list_all-from_AllPass}
+use Rattle.std.proofs.lemmas.Bool.Decides.{nat_tests}
+use Rattle.std.proofs.lemmas.Bool.{and_parts, leb-true, le-leb, cases_Bool}
 use Rattle.tasks.specs.declared.task.Task.{Task}
 use Rattle.tasks.specs.Rounding.{up}
 use Rattle.tasks.specs.Units.{units_in, one_a_tick}
-use Rattle.tasks.specs.Limits.{within_limits, all_within}
+use Rattle.tasks.specs.Limits.{all_within}
 use Rattle.tasks.specs.Demand.{work_before, demand, good, periods_exist}
 use Rattle.tasks.proofs.Roundings.{up_mono}
-use Rattle.tasks.proofs.Bounds.{limits}
+use Rattle.tasks.proofs.Bounds.{Limits, all_limits}
 
 pub record Good (x : Task) (above : List Task) (t : ℕ) : Type 0 where
   pub starts : 1 ≤ t
@@ -16,25 +19,17 @@ pub record Good (x : Task) (above : List Task) (t : ℕ) : Type 0 where
   pub enough : demand x above t ≤ units_in one_a_tick t
 
 pub good_parts : (x : Task) (above : List Task) (t : ℕ) → good x above t ≡ true → Good x above t
-good_parts x above t h =
-    let a = and_parts (leb 1 t) (leb t x.period.0 && leb (demand x above t) (units_in one_a_tick t)) h in
-    let b = and_parts (leb t x.period.0) (leb (demand x above t) (units_in one_a_tick t)) a.1 in
-    record { starts = leb-true 1 t a.0; ends = leb-true t x.period.0 b.0; enough = leb-true (demand x above t) (units_in one_a_tick t) b.1 }
+good_parts x above t h = record { starts = grind (arith, nat_tests); ends = grind (arith, nat_tests); enough = grind (arith, nat_tests) }
 
 pub good_from : (x : Task) (above : List Task) (t : ℕ) → Good x above t → good x above t ≡ true
-good_from x above t g =
-    and_from (leb 1 t) (leb t x.period.0 && leb (demand x above t) (units_in one_a_tick t)) (le-leb 1 t g.starts)
-    (and_from (leb t x.period.0) (leb (demand x above t) (units_in one_a_tick t)) (le-leb t x.period.0 g.ends) (le-leb (demand x above t) (units_in one_a_tick t) g.enough))
+good_from x above t g = grind (arith, nat_tests)
 
 pub not_good : (x : Task) (above : List Task) (t : ℕ) → (Good x above t → ⊥) → good x above t ≡ false
 not_good x above t h = elim (cases_Bool (good x above t)) [ inl e ↦ absurd (h (good_parts x above t e)) | inr e ↦ e ]
 
 -- tasks within the limits have periods
 pub limits_exist : (ys : List Task) → all_within ys ≡ true → periods_exist ys ≡ true
-limits_exist [] h = h
-limits_exist (y ∷ ys) h =
-    let p = and_parts (within_limits y) (all_within ys) h in
-    and_from (leb 1 y.period.0) (periods_exist ys) (le-leb 1 y.period.0 (limits y p.0).period_from) (limits_exist ys p.1)
+limits_exist ys h = list_all-from_AllPass (λ y. nat_le 1 y.period.0) ys (All-weaker Limits (λ y. nat_le 1 y.period.0 ≡ true) (λ y l. le-leb 1 y.period.0 l.period_from) ys (all_limits ys h))
 
 -- the demand never falls
 pub work_mono : (ys : List Task) (t u : ℕ) → periods_exist ys ≡ true → t ≤ u → work_before ys t ≤ work_before ys u

@@ -19,7 +19,7 @@ Least_is test n None = NoneBelow test (suc n)
 Least_is test n (Some t) = LeastOf test n t.0
 
 below_more : (test : ℕ → Bool) (n : ℕ) → NoneBelow test n → test n ≡ false → NoneBelow test (suc n)
-below_more test n h e u a b = elim (cases_lt u n) [ inl l ↦ h u a l | inr l ↦ let q : n ≡ u = omega arith in subst (λ (k : ℕ). test k ≡ false) q e ]
+below_more test n h e u a b = elim (cases_lt u n) [ inl l ↦ h u a l | inr l ↦ grind (arith, e) ]
 
 pub least_is : (test : ℕ → Bool) (n : ℕ) → Least_is test n (least test n)
 unfolding least

@@ -4,3 +4,4 @@ pub mod Sums
 pub mod Leasts
 pub mod Goods
 pub mod Points
+pub mod Priority

@@ -1,9 +1,10 @@
 -- Scheduling points suffice: where a task has a good instant, one of its scheduling points is good.
-use Rattle.std.proofs.Common.{◌≡◌, ℕ, ◌*◌, ◌%◌, ◌≤◌, true, false, ◌&&◌, eqb, leb, List, [], ◌∷◌, inl, inr, one-mul, arith}
+use Rattle.std.proofs.Common.{◌≡◌, ℕ, ◌*◌, ◌≤◌, true, false, leb, All, List, [], ◌∷◌, inl, inr, one-mul, arith}
 use native.Mathlib.Nat.{mul-mod_left}
-use Rattle.std.specs.List.{AllByRecursion}
+use Rattle.std.proofs.lemmas.List.Elements.{All-nil, All-cons, All-head, All-tail, All-weaker}
 use Rattle.std.proofs.lemmas.Nat.{mul-le}
-use Rattle.std.proofs.lemmas.Bool.{and_parts, and_from, or_cases, or_left, or_right, leb-true, le-leb, eq-eqb, cases_Bool, cases_lt}
+use Rattle.std.proofs.lemmas.Bool.Decides.{nat_tests}
+use Rattle.std.proofs.lemmas.Bool.{and_parts, leb-true, cases_Bool, cases_lt}
 use Rattle.tasks.specs.declared.task.Task.{Task}
 use Rattle.tasks.specs.Rounding.{up}
 use Rattle.tasks.specs.Demand.{work_before, good, periods_exist}
@@ -18,15 +19,10 @@ pub record PointAt (x : Task) (above : List Task) (t : ℕ) : Type 0 where
   pub multiple : multiple_of_one (x ∷ above) t ≡ true
 
 pub point_parts : (x : Task) (above : List Task) (t : ℕ) → point x above t ≡ true → PointAt x above t
-point_parts x above t h =
-    let a = and_parts (leb 1 t) (leb t x.period.0 && multiple_of_one (x ∷ above) t) h in
-    let b = and_parts (leb t x.period.0) (multiple_of_one (x ∷ above) t) a.1 in
-    record { starts = leb-true 1 t a.0; ends = leb-true t x.period.0 b.0; multiple = b.1 }
+point_parts x above t h = record { starts = grind (arith, nat_tests); ends = grind (arith, nat_tests); multiple = grind (arith, nat_tests) }
 
 pub point_from : (x : Task) (above : List Task) (t : ℕ) → PointAt x above t → point x above t ≡ true
-point_from x above t p =
-    and_from (leb 1 t) (leb t x.period.0 && multiple_of_one (x ∷ above) t) (le-leb 1 t p.starts)
-    (and_from (leb t x.period.0) (multiple_of_one (x ∷ above) t) (le-leb t x.period.0 p.ends) p.multiple)
+point_from x above t p = grind (arith, nat_tests)
 
 pub not_point : (x : Task) (above : List Task) (t : ℕ) → (PointAt x above t → ⊥) → point x above t ≡ false
 not_point x above t h = elim (cases_Bool (point x above t)) [ inl e ↦ absurd (h (point_parts x above t e)) | inr e ↦ e ]
@@ -36,7 +32,7 @@ abbrev next : ℕ → Task → ℕ
 next t y = up t y.period.0 * y.period.0
 
 next_multiple : (t : ℕ) (y : Task) (ys : List Task) → multiple_of_one (y ∷ ys) (next t y) ≡ true
-next_multiple t y ys = or_left (eqb (next t y % y.period.0) 0) (multiple_of_one ys (next t y)) (eq-eqb (next t y % y.period.0) 0 (mul-mod_left (up t y.period.0) y.period.0))
+next_multiple t y ys = grind (arith, nat_tests, mul-mod_left (up t y.period.0) y.period.0)
 
 -- the first of those multiples
 record Nearest (t : ℕ) (x : Task) (above : List Task) : Type 0 where
@@ -44,20 +40,13 @@ record Nearest (t : ℕ) (x : Task) (above : List Task) : Type 0 where
   multiple : multiple_of_one (x ∷ above) at ≡ true
   from : t ≤ at
   own : at ≤ next t x
-  others : AllByRecursion (λ y. at ≤ next t y) above
-
-lower : (m n t : ℕ) (ys : List Task) → n ≤ m → AllByRecursion (λ y. m ≤ next t y) ys → AllByRecursion (λ y. n ≤ next t y) ys
-lower m n t [] h a = tt
-lower m n t (y ∷ ys) h a = (omega arith, lower m n t ys h a.1)
+  others : All (λ y. at ≤ next t y) above
 
 widen : (m : ℕ) (x y : Task) (ys : List Task) → multiple_of_one (x ∷ ys) m ≡ true → multiple_of_one (x ∷ y ∷ ys) m ≡ true
-widen m x y ys h = elim (or_cases (eqb (m % x.period.0) 0) (multiple_of_one ys m) h) [
-  | inl e ↦ or_left (eqb (m % x.period.0) 0) (multiple_of_one (y ∷ ys) m) e
-  | inr e ↦ or_right (eqb (m % x.period.0) 0) (multiple_of_one (y ∷ ys) m) (or_right (eqb (m % y.period.0) 0) (multiple_of_one ys m) e)
-]
+widen m x y ys h = grind (arith, nat_tests)
 
 nearest : (t : ℕ) (x : Task) (above : List Task) → 1 ≤ x.period.0 → periods_exist above ≡ true → Nearest t x above
-nearest t x [] s a = record { at = next t x; multiple = next_multiple t x []; from = up_covers t x.period.0 s; own = omega arith; others = tt }
+nearest t x [] s a = record { at = next t x; multiple = next_multiple t x []; from = up_covers t x.period.0 s; own = omega arith; others = All-nil (λ y. next t x ≤ next t y) }
 nearest t x (y ∷ ys) s a = go (and_parts (leb 1 y.period.0) (periods_exist ys) a) (λ p. nearest t x ys s p)
   where
     go : (leb 1 y.period.0 ≡ true) × (periods_exist ys ≡ true) → (periods_exist ys ≡ true → Nearest t x ys) → Nearest t x (y ∷ ys)
@@ -66,22 +55,22 @@ nearest t x (y ∷ ys) s a = go (and_parts (leb 1 y.period.0) (periods_exist ys)
         elim (cases_lt (next t y) r.at) [
           | inl h ↦ record {
             at = next t y;
-            multiple = or_right (eqb (next t y % x.period.0) 0) (multiple_of_one (y ∷ ys) (next t y)) (next_multiple t y ys);
+            multiple = grind (arith, nat_tests, next_multiple t y ys);
             from = up_covers t y.period.0 (leb-true 1 y.period.0 p.0);
             own = omega (arith, r.own);
-            others = (omega arith, lower r.at (next t y) t ys (omega arith) r.others);
+            others = All-cons (λ z. next t y ≤ next t z) y ys (omega arith) (All-weaker (λ z. r.at ≤ next t z) (λ z. next t y ≤ next t z) (λ z l. omega arith) ys r.others);
           }
-          | inr h ↦ record { at = r.at; multiple = widen r.at x y ys r.multiple; from = r.from; own = r.own; others = (h, r.others) }
+          | inr h ↦ record { at = r.at; multiple = widen r.at x y ys r.multiple; from = r.from; own = r.own; others = All-cons (λ z. r.at ≤ next t z) y ys h r.others }
         ]
 
 -- up to there the work asked for stays the same
-work_kept : (t m : ℕ) (ys : List Task) → periods_exist ys ≡ true → AllByRecursion (λ y. m ≤ next t y) ys → work_before ys m ≤ work_before ys t
+work_kept : (t m : ℕ) (ys : List Task) → periods_exist ys ≡ true → All (λ y. m ≤ next t y) ys → work_before ys m ≤ work_before ys t
 work_kept t m [] a n = omega arith
 work_kept t m (y ∷ ys) a n =
     let p = and_parts (leb 1 y.period.0) (periods_exist ys) a in
-    let one = up_least m y.period.0 (up t y.period.0) (leb-true 1 y.period.0 p.0) n.0 in
+    let one = up_least m y.period.0 (up t y.period.0) (leb-true 1 y.period.0 p.0) (All-head (λ z. m ≤ next t z) y ys n) in
     let more = mul-le y.work.0 (up m y.period.0) y.work.0 (up t y.period.0) (omega arith) one in
-    omega (arith, work_kept t m ys p.1 n.1)
+    omega (arith, work_kept t m ys p.1 (All-tail (λ z. m ≤ next t z) y ys n))
 
 pub record GoodPoint (x : Task) (above : List Task) : Type 0 where
   pub at : ℕ

@@ -1,5 +1,6 @@
 -- The demand of a task, its good instants, and when a list of tasks fits.
 use Rattle.std.specs.Prelude.{◌≡◌, ℕ, ◌+◌, ◌*◌, ◌^◌, ◌<◌, Bool, true, cond, ◌&&◌, List, [], ◌∷◌, length, take, Some, None, Option, nat_le, nat_lt, slice_index_or}
+use Rattle.std.specs.List.{list_all}
 use Rattle.tasks.specs.declared.task.Task.{Task}
 use Rattle.tasks.specs.declared.units.Units.{Units}
 use Rattle.tasks.specs.Rounding.{up}
@@ -37,8 +38,7 @@ in_64_bits w = cond (nat_lt w (2 ^ 64)) (Some (record { 0 = w })) None
 
 -- no period of the list is 0, so that each release count exists
 abbrev pub periods_exist : List Task → Bool
-periods_exist [] = true
-periods_exist (y ∷ ys) = nat_le 1 y.period.0 && periods_exist ys
+periods_exist ys = list_all (λ y. nat_le 1 y.period.0) ys
 
 abbrev pub work_answer : Task → ℕ → Option Units
 work_answer y t = cond (nat_le 1 y.period.0) (in_64_bits (y.work.0 * up t y.period.0)) None

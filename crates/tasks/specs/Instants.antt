@@ -1,12 +1,12 @@
 -- Scheduling points, and the least instant that passes a test.
-use Rattle.std.specs.Prelude.{ℕ, zero, suc, ◌%◌, Bool, false, cond, ◌&&◌, ◌||◌, List, [], ◌∷◌, Some, None, Option, ◌==◌, nat_le}
+use Rattle.std.specs.Prelude.{ℕ, zero, suc, ◌%◌, Bool, cond, ◌&&◌, List, ◌∷◌, Some, None, Option, ◌==◌, nat_le}
+use Rattle.std.specs.List.{list_any}
 use Rattle.tasks.specs.declared.task.Task.{Task}
 use Rattle.tasks.specs.declared.units.Ticks.{Ticks}
 
 -- t is a multiple of the period of one of the tasks
 abbrev pub multiple_of_one : List Task → ℕ → Bool
-multiple_of_one [] t = false
-multiple_of_one (y ∷ ys) t = t % y.period.0 == 0 || multiple_of_one ys t
+multiple_of_one ys t = list_any (λ y. t % y.period.0 == 0) ys
 
 -- t is a scheduling point of x below the tasks `above`: from 1 to T, and a multiple of its own period or of one above
 abbrev pub point : Task → List Task → ℕ → Bool

@@ -1,5 +1,6 @@
 pub mod Rounding
 pub mod Units
+pub mod Tasks
 pub mod Limits
 pub mod Share
 pub mod Priority

@@ -1,5 +1,6 @@
 -- The limits of a task.
-use Rattle.std.specs.Prelude.{Bool, true, ◌&&◌, List, [], ◌∷◌, nat_le}
+use Rattle.std.specs.Prelude.{Bool, ◌&&◌, List, nat_le}
+use Rattle.std.specs.List.{list_all}
 use Rattle.tasks.specs.declared.task.Task.{Task}
 use Rattle.tasks.specs.Units.{units_in, one_a_tick}
 
@@ -16,5 +17,4 @@ within_limits x = period_allowed x && work_allowed x
 
 -- each task of a list keeps the limits
 abbrev pub all_within : List Task → Bool
-all_within [] = true
-all_within (x ∷ xs) = within_limits x && all_within xs
+all_within = list_all within_limits

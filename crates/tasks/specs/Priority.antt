@@ -1,5 +1,6 @@
 -- Rate-monotonic priority. A list of tasks is in the order of priority, the highest first.
 use Rattle.std.specs.Prelude.{Bool, true, cond, ◌&&◌, List, [], ◌∷◌, nat_le}
+use Rattle.std.specs.List.{list_all}
 use Rattle.tasks.specs.declared.task.Task.{Task}
 
 -- an earlier task y stands above a later one x: the smaller period goes first, and of equal periods the one admitted earlier
@@ -7,8 +8,7 @@ abbrev pub stands_above : Task → Task → Bool
 stands_above y x = nat_le y.period.0 x.period.0
 
 abbrev pub all_above : List Task → Task → Bool
-all_above [] x = true
-all_above (y ∷ ys) x = stands_above y x && all_above ys x
+all_above ys x = list_all (λ y. stands_above y x) ys
 
 -- no period is larger than a later one
 abbrev pub by_priority : List Task → Bool

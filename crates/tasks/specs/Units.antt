@@ -1,5 +1,5 @@
 -- Work is counted in units and time in ticks. In definitions both are plain numbers, and they meet only in these two functions of a processor's speed.
-use Rattle.std.specs.Prelude.{ℕ, ◌*◌, ◌^◌, cond, ◌&&◌, Some, None, Option, nat_le, nat_lt}
+use Rattle.std.specs.Prelude.{ℕ, ◌*◌, ◌^◌, cond, Some, None, Option, nat_le, nat_lt}
 use Rattle.tasks.specs.declared.units.Speed.{Speed}
 use Rattle.tasks.specs.declared.units.Ticks.{Ticks}
 use Rattle.tasks.specs.Rounding.{up}
@@ -16,6 +16,10 @@ ticks_for speed w = up w speed.0
 abbrev pub one_a_tick : Speed
 one_a_tick = record { 0 = 1 }
 
+-- a count of ticks up to 32 bits
+abbrev pub in_32_bits : ℕ → Option Ticks
+in_32_bits t = cond (nat_lt t (2 ^ 32)) (Some (record { 0 = t })) None
+
 -- `ticks_for` as a 32-bit number: none where it is larger, and none at speed 0, which does nothing in any time
 abbrev pub ticks_answer : Speed → ℕ → Option Ticks
-ticks_answer speed w = cond (nat_le 1 speed.0 && nat_lt (ticks_for speed w) (2 ^ 32)) (Some (record { 0 = ticks_for speed w })) None
+ticks_answer speed w = cond (nat_le 1 speed.0) (in_32_bits (ticks_for speed w)) None

@@ -12,11 +12,8 @@ fn work_before(task: &Task, t: Ticks) -> Option<Units>
     if task.period.0 == 0 {
         return None;
     }
-    let releases = over(t.0 as u64, task.period);
-    let Some(work) = task.work.0.checked_mul(releases) else {
-        return None;
-    };
-    Some(Units(work))
+    let releases = over(u64::from(t.0), task.period);
+    task.work.0.checked_mul(releases).map(Units)
 }
 
 /// The demand of `task` at `t` below the tasks `above`: none where a period above is 0, or past 64 bits.
@@ -25,13 +22,7 @@ pub fn demand_at(task: Task, above: &[Task], t: Ticks) -> Option<Units>
 {
     let mut sum = task.work.0;
     for other in above {
-        let Some(work) = work_before(other, t) else {
-            return None;
-        };
-        let Some(more) = sum.checked_add(work.0) else {
-            return None;
-        };
-        sum = more;
+        sum = sum.checked_add(work_before(other, t)?.0)?;
     }
     Some(Units(sum))
 }

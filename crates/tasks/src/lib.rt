@@ -6,5 +6,5 @@ mod task;
 mod units;
 
 pub use demand::demand_at;
-pub use task::Task;
+pub use task::{Task, all_keep_limits};
 pub use units::{Speed, Ticks, Units};

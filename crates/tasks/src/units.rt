@@ -1,17 +1,17 @@
 // Work in units, time in ticks, and a processor's speed, by which alone the one becomes the other.
-ghost use Rattle.std.specs.Prelude.{◌≡◌, ◌+◌, ◌-◌, ◌/◌, ◌^◌, ◌≤◌, nat_lt};
-ghost use Rattle.tasks.specs.Units.{units_in, one_a_tick, ticks_answer};
+ghost use Rattle.std.specs.Prelude.{◌≡◌, ◌≤◌};
+ghost use Rattle.tasks.specs.Units.{units_in, ticks_for, one_a_tick, in_32_bits, ticks_answer};
 
 /// Work.
-#[derive(Clone, Copy)]
+#[derive(Clone, Copy, Debug, Default, PartialEq, Eq, PartialOrd, Ord)]
 pub struct Units(pub u64);
 
 /// Time: an instant, or a length of time.
-#[derive(Clone, Copy)]
+#[derive(Clone, Copy, Debug, Default, PartialEq, Eq, PartialOrd, Ord)]
 pub struct Ticks(pub u32);
 
 /// How many units a processor does in a tick.
-#[derive(Clone, Copy)]
+#[derive(Clone, Copy, Debug, PartialEq, Eq)]
 pub struct Speed(pub u32);
 
 impl Speed {
@@ -26,7 +26,7 @@ impl Speed {
     pub fn units_in(self, t: Ticks) -> Units
         ensures { result.0 ≡ units_in self t.0 }
     {
-        Units(self.0 as u64 * t.0 as u64)
+        Units(u64::from(self.0) * u64::from(t.0))
     }
 
     /// The least ticks in which `work` is done: none at speed 0, or past 32 bits.
@@ -36,25 +36,22 @@ impl Speed {
         if self.0 == 0 {
             return None;
         }
-        let ticks = ticks_over(work, self);
-        if !fits(ticks) {
-            return None;
-        }
-        Some(Ticks(ticks as u32))
+        in_32_bits(ticks_over(work, self))
     }
 }
 
-// The work divided by the speed, rounded up.
-fn ticks_over(work: Units, speed: Speed) -> u128
+// The work divided by the speed, rounded up: apart from `over`, which takes a period, for the two never mix.
+#[tactic(auto, using(crate::proofs::Roundings::rounding))]
+fn ticks_over(work: Units, speed: Speed) -> u64
     requires { 1 ≤ speed.0 }
-    ensures { result ≡ (work.0 + (speed.0 - 1)) / speed.0 }
+    ensures { result ≡ ticks_for speed work.0 }
 {
-    (work.0 as u128 + (speed.0 as u128 - 1)) / speed.0 as u128
+    work.0.div_ceil(u64::from(speed.0))
 }
 
-// Whether a number of ticks has 32 bits.
-fn fits(ticks: u128) -> bool
-    ensures { result ≡ nat_lt ticks (2 ^ 32) }
+// A number of ticks, where it has 32 bits.
+fn in_32_bits(ticks: u64) -> Option<Ticks>
+    ensures { result ≡ in_32_bits ticks }
 {
-    ticks <= u32::MAX as u128
+    u32::try_from(ticks).ok().map(Ticks)
 }

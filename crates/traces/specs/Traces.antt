@@ -1,9 +1,11 @@
 -- The lines of a trace: one for each instant before the end of a run.
-use Rattle.std.specs.Prelude.{◌≡◌, ℕ, zero, suc, ◌<◌, ◌≤◌, Bool, true, false, cond, List, [], ◌∷◌, ◌++◌, length, Some, None, codes, decimal, Option}
+use Rattle.std.specs.Prelude.{◌≡◌, ℕ, zero, suc, ◌<◌, ◌≤◌, Bool, true, false, List, [], ◌∷◌, ◌++◌, length, Some, None, codes, decimal, Option}
+use Rattle.std.specs.List.{filter, flat_map, position, range_with_len}
 use Rattle.tasks.specs.declared.task.Task.{Task}
 use Rattle.machine.specs.declared.state.State.{State}
 use Rattle.machine.specs.declared.state.State.TheVariants.{Idle, Waiting}
 use Rattle.machine.specs.declared.state.Release.{Release}
+use Rattle.machine.specs.declared.refusal.Refusal.{Refusal}
 use Rattle.machine.specs.Machine.{first_missed, due, outcome}
 use Rattle.machine.specs.Traces.{states_at}
 use Rattle.machine.specs.Laws.{ready_at, end_of, turn_of}
@@ -11,19 +13,17 @@ use Rattle.machine.specs.Moments.{deadlines_fit}
 use Rattle.machine.specs.Refusals.{first_cause}
 use Rattle.traces.specs.Texts.{number_text}
 
--- the places below p that are released now, from 0 up
-abbrev pub released_below : List Release → (now p : ℕ) → List ℕ
-released_below rs now zero = []
-released_below rs now (suc p) = released_below rs now p ++ cond (due rs p now) (p ∷ []) []
+-- the places, of so many, that are released now, from 0 up
+abbrev pub released_below : List Release → (now count : ℕ) → List ℕ
+released_below rs now count = filter (λ p. due rs p now) (range_with_len 0 count)
 
 abbrev pub waiting : State → Bool
 waiting Idle = false
 waiting (Waiting left deadline) = true
 
--- the place of the first waiting task, to which the tick goes; places are counted on from `place`
-abbrev pub first_waiting : ℕ → List State → Option ℕ
-first_waiting place [] = None
-first_waiting place (s ∷ ss) = cond (waiting s) (Some place) (first_waiting (suc place) ss)
+-- the place of the first waiting task, to which the tick goes
+abbrev pub first_waiting : List State → Option ℕ
+first_waiting ss = position waiting ss
 
 -- that place has the turn, and where there is none no place has it
 abbrev pub TurnIs : List State → Option ℕ → Type 0
@@ -31,12 +31,11 @@ TurnIs ss None = (p : ℕ) → turn_of p ss ≡ 0
 TurnIs ss (Some p) = turn_of p ss ≡ 1
 
 abbrev pub ServedHasTurn : Type 0
-ServedHasTurn = (ss : List State) → TurnIs ss (first_waiting 0 ss)
+ServedHasTurn = (ss : List State) → TurnIs ss (first_waiting ss)
 
 -- numbers, each behind a comma
 abbrev pub behind_commas : List ℕ → List ℕ
-behind_commas [] = []
-behind_commas (n ∷ ns) = codes "," ++ (decimal n ++ behind_commas ns)
+behind_commas ns = flat_map (λ n. codes "," ++ decimal n) ns
 
 -- places parted by commas, or a dash for none
 abbrev pub places_text : List ℕ → List ℕ
@@ -50,8 +49,7 @@ state_text (Waiting left deadline) = decimal left.0 ++ (codes "@" ++ decimal dea
 
 -- states, each behind a space
 abbrev pub states_text : List State → List ℕ
-states_text [] = []
-states_text (s ∷ ss) = codes " " ++ (state_text s ++ states_text ss)
+states_text ss = flat_map (λ s. codes " " ++ state_text s) ss
 
 -- `INSTANT released PLACES served PLACE states STATE .. STATE`, and the end of the line
 abbrev pub line_text : ℕ → List ℕ → Option ℕ → List State → List ℕ
@@ -60,7 +58,7 @@ line_text now released served states =
 
 -- the line of instant n: what is released at it, to whom its tick goes, and the states after it
 abbrev pub line_at : List Task → List Release → ℕ → List ℕ
-line_at ts rs n = line_text n (released_below rs n (length ts)) (first_waiting 0 (ready_at ts rs n)) (states_at ts rs (suc n))
+line_at ts rs n = line_text n (released_below rs n (length ts)) (first_waiting (ready_at ts rs n)) (states_at ts rs (suc n))
 
 -- the lines of the instants below n
 abbrev pub lines_below : List Task → List Release → ℕ → List ℕ
@@ -68,9 +66,9 @@ lines_below ts rs zero = []
 lines_below ts rs (suc n) = lines_below ts rs n ++ line_at ts rs n
 
 -- what stands before the answer: nothing where the run is refused, else the lines up to the miss or the horizon, on lines of their own
-abbrev pub lines_unless : Option ℕ → List ℕ → List ℕ
+abbrev pub lines_unless : Option Refusal → List ℕ → List ℕ
 lines_unless None lines = codes "\n" ++ lines
-lines_unless (Some number) lines = []
+lines_unless (Some refusal) lines = []
 
 abbrev pub trace_text : List Task → ℕ → List Release → List ℕ
 trace_text ts horizon rs = lines_unless (first_cause ts horizon rs) (lines_below ts rs (end_of horizon (outcome ts horizon rs).miss))

@@ -5,7 +5,7 @@ use desk::{Desk, reply};
 use std::io::{BufRead, BufReader, Write};
 
 fn main(rt: HostRuntime) -> anyhow::Result<()> {
-    let mut desk = Desk::Empty;
+    let mut desk: Desk = None;
     for line in BufReader::new(rt.alloc(), rt.stdin())?.lines(rt.alloc()) {
         let text = line?;
         let back = reply(rt.alloc(), &mut desk, text.as_str())?;

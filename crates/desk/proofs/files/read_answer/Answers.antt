@@ -13,4 +13,4 @@ returns-in-Ok c =
     let file = c.in-Ok.file in
     let e = (reads_what_stands input (file_seen file) (bytes_from input small)).0 c.in-Ok.ensures in
     let n : c.len.result ≡ length (file_seen file).records = omega (arith, c.len.ensures, file.records.ok, length-map (vec_items file.records) seen_as) in
-    subst (λ t. IfOk c.file_text.result (λ s. string_bytes s ≡ t)) (ap (file_text file.policy file.m) n ∙ sym (ap reading_text e)) c.file_text.ensures
+    subst (λ t. IfOk c.to_string.result (λ s. string_bytes s ≡ t)) (ap (file_text file.policy file.processors) n ∙ sym (ap reading_text e)) c.to_string.ensures.ok

@@ -1,32 +1,33 @@
-use Rattle.std.proofs.Common.{◌≡◌, [], take, replicate, sym, refl, ap, ◌∙◌}
-use Rattle.std.proofs.lemmas.List.{take-replicate}
-use Rattle.seating.specs.Seats.{Lists, numbers, all_differ}
-use Rattle.rack.specs.Taken.{first_lists}
-use Rattle.seating.proofs.Numbering.{differ_none}
+use Rattle.std.proofs.Common.{leb, List, [], length, sym, refl, ap, ◌∙◌, subst}
+use Rattle.std.proofs.lemmas.Bool.{and_parts, leb-true}
+use Rattle.std.proofs.lemmas.List.{length-replicate}
+use Rattle.seating.specs.declared.seat.Seat.{Seat}
+use Rattle.seating.specs.Seats.{Lists}
+use Rattle.rack.specs.Steps.{Run}
+use Rattle.rack.specs.Table.{Sound}
+use Rattle.rack.proofs.Soundness.{free_sound}
 use Rattle.rack.proofs.Living.{whole_life}
-use Rattle.rack.proofs.Numbers.{allowed}
 use Rattle.rack.proofs.rack.Rack.make.Goals as goal
 
 pub invariant_of-result : goal.invariant_of-result
 invariant_of-result g c =
-    let m = c.args.m in
-    let ok = allowed m (sym c.if-not-may_have.ensures) in
-    let few = ok.1 in
-    let free : first_lists m c.empty.result ≡ replicate m [] = ap (λ (b : Lists). take m b) c.empty.ensures.lists ∙ take-replicate m 16 [] few in
-    record { some = ok.0; few = few; wide = c.empty.ensures.wide; differ = ap (λ (b : Lists). all_differ (numbers b)) free ∙ differ_none m }
+    let m = c.args.processors in
+    let ok = and_parts (leb 1 m) (leb m 16) (sym c.if-not-may_have.ensures) in
+    subst Sound (sym c.free.ensures) (free_sound m (leb-true 1 m ok.0) (leb-true m 16 ok.1))
 
 pub returns : goal.returns
 returns g c =
-    let m = c.args.m in
-    let ok = allowed m (sym c.if-not-may_have.ensures) in
-    let few = ok.1 in
-    let free : first_lists m c.empty.result ≡ replicate m [] = ap (λ (b : Lists). take m b) c.empty.ensures.lists ∙ take-replicate m 16 [] few in
+    let m = c.args.processors in
+    let ok = and_parts (leb 1 m) (leb m 16) (sym c.if-not-may_have.ensures) in
+    let some = leb-true 1 m ok.0 in
+    let few = leb-true m 16 ok.1 in
     record {
-      some = ok.0;
+      some = some;
       few = few;
-      free = free;
-      processors = refl;
+      free = c.free.ensures;
+      processors = ap (length {A = List Seat}) c.free.ensures ∙ length-replicate m [];
       judge = refl;
       preference = refl;
-      whole_life = λ es run. whole_life g.J.Judge.meaning g.P.Preference.before m _ free es run;
+      whole_life = λ es run. whole_life g.J.Judge.meaning g.P.Preference.before g.met.J.Judge.lawful m some few c.args.judge c.args.preference es
+          (subst (λ (b : Lists). Run g.J.Judge.meaning g.P.Preference.before (record { lists = b; judge = c.args.judge; preference = c.args.preference }) es) c.free.ensures run);
     }

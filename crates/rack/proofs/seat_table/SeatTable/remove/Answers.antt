@@ -1,25 +1,16 @@
-use Rattle.std.proofs.Common.{◌+◌, ◌∙◌, arith, rules}
+use Rattle.std.proofs.Common.{◌+◌, List, ap, ◌∙◌, arith}
+use Rattle.std.specs.List.{remove}
 use Rattle.std.proofs.lemmas.List.Edits.{length-between}
-use Rattle.std.proofs.lemmas.List.{get_or-take, get_or_default}
-use Rattle.rack.proofs.Shifting.{left_front, length-left, in_part}
+use Rattle.seating.specs.declared.seat.Seat.{Seat}
+use Rattle.rack.proofs.Shifting.{left_front, in_part}
+use Rattle.rack.proofs.Taken.{length-taken}
 use Rattle.rack.proofs.seat_table.SeatTable.remove.Goals as goal
 
-pub invariant_of-self : goal.invariant_of-self
-invariant_of-self c =
-    let p = c.args.self.now in
-    let few = p.few in
-    let whole = p.wide in
-    let part = length-between p.seats c.args.at p.taken (omega arith) in
-    record { few = omega arith; wide = length-left p.seats c.rotate_left.new.self c.args.at p.taken c.requires (omega arith) (c.rotate_left.ensures.len ∙ part) ∙ whole }
-
-pub returns : goal.returns
-returns c =
-    let p = c.args.self.now in
-    let few = p.few in
-    let whole = p.wide in
-    let part = length-between p.seats c.args.at p.taken (omega arith) in
-    record {
-      list = left_front p.seats c.rotate_left.new.self c.args.at p.taken c.requires (omega arith) (c.rotate_left.ensures.len ∙ part)
-          (λ i d lt. c.rotate_left.ensures.by_index.0 i d (omega (arith, part)) ∙ in_part p.seats c.args.at p.taken (i + 1) d (omega arith));
-      value = search (rules, get_or-take, get_or_default);
-    }
+pub returns-clause-list : goal.returns-clause-list
+returns-clause-list c =
+    let t = c.self.inside in
+    let n = length-taken t.taken t.seats _ (omega (arith, c.self.invariant)) c.self.view_is in
+    let part = length-between t.seats c.args.at t.taken (omega arith) in
+    left_front t.seats c.rotate_left.new.self c.args.at t.taken (omega arith) (omega arith) (c.rotate_left.ensures.len ∙ part)
+    (λ i d lt. c.rotate_left.ensures.by_index.0 i d (omega (arith, part)) ∙ in_part t.seats c.args.at t.taken (i + 1) d (omega arith))
+    ∙ ap (λ (l : List Seat). remove l c.args.at) c.self.view_is

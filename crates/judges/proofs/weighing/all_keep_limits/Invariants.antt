@@ -1,6 +1,0 @@
-use Rattle.std.proofs.Common.{◌≡◌, drop}
-use Rattle.tasks.specs.Limits.{all_within}
-use Rattle.judges.proofs.weighing.all_keep_limits.Given as goal
-
-abbrev pub invariant-loop-task : goal.invariant-loop-task
-invariant-loop-task l = all_within (drop l.task-index l.tasks) ≡ all_within l.tasks

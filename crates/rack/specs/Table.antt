@@ -1,0 +1,17 @@
+-- A rack as its contracts see it, and what every rack keeps.
+use Rattle.std.specs.Prelude.{◌≡◌, ℕ, ◌<◌, ◌≤◌, true, length}
+use Rattle.seating.specs.Seats.{Lists, numbers, all_differ}
+use Rattle.book.specs.Book.{seats_on, KeptWell}
+
+-- the seats of each processor, the judge and the preference
+pub record Table (J P : Type 0) : Type 0 where
+  pub lists : Lists
+  pub judge : J
+  pub preference : P
+
+-- It has 1 to 16 processors. Each has at most 32 seats, in priority order, of tasks that keep the limits, and each seat keeps a good instant. No number is seated twice.
+pub record Sound (b : Lists) : Type 0 where
+  pub some : 1 ≤ length b
+  pub few : length b ≤ 16
+  pub kept_well : (p : ℕ) → p < length b → KeptWell (seats_on b p)
+  pub differ : all_differ (numbers b) ≡ true

@@ -1,9 +1,0 @@
-use Rattle.std.proofs.Common.{◌≡◌, ◌-◌, map, vec_items}
-use Rattle.rackfile.specs.Records.{seen_as}
-use Rattle.rackfile.specs.Files.{read_records}
-use Rattle.rackfile.proofs.Sequences.{prepend}
-use Rattle.rackfile.proofs.file.records.Given as goal
-
--- what is read and what is left give the whole
-abbrev pub invariant-loop-i : goal.invariant-loop-i
-invariant-loop-i l = read_records l.whole l.count l.initial.left ≡ prepend (map seen_as (vec_items l.all)) (read_records l.whole (l.count - l._i) l.left)

@@ -1,5 +1,0 @@
-use Rattle.rackfile.proofs.Labels.{labels_are_there}
-use Rattle.rackfile.proofs.labels_are_there.Goals as goal
-
-pub returns : goal.returns
-returns c = labels_are_there

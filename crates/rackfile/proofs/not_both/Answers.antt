@@ -1,5 +1,0 @@
-use Rattle.rackfile.proofs.Standing.{not_both}
-use Rattle.rackfile.proofs.not_both.Goals as goal
-
-pub returns : goal.returns
-returns c = not_both

@@ -1,5 +1,0 @@
-use Rattle.rackfile.proofs.Standing.{one_file}
-use Rattle.rackfile.proofs.one_file.Goals as goal
-
-pub returns : goal.returns
-returns c = one_file

@@ -1,0 +1,10 @@
+-- What it means to read something that may not stand there.
+use Rattle.std.specs.Prelude.{◌≡◌, Some, None, Ok, Err, Option, Result}
+use Rattle.script.specs.declared.no_call.NoCall.{NoCall}
+use Rattle.script.specs.declared.no_call.NoCall.TheVariants.{Unreadable, Memory}
+
+-- what stands there is read, and `Unreadable` says that nothing does; memory may run out at either
+abbrev pub Reads : {A B : Type 0} → (A → B) → Option B → Result A NoCall → Type 0
+Reads seen there (Ok x) = there ≡ Some (seen x)
+Reads seen there (Err Unreadable) = there ≡ None
+Reads seen there (Err (Memory e)) = Unit {0}

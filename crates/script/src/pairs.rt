@@ -1,0 +1,85 @@
+// Numbers two by two, behind their count.
+ghost use Rattle.std.specs.Prelude.{◌≡◌, ◌+◌, ◌<◌, ℕ, length, IfOk, MatchOption, vec_items};
+ghost use Rattle.std.specs.List.{IsSplitAt};
+ghost use Rattle.script.specs.NoCalls.{Reads};
+ghost use Rattle.script.specs.Pairs.{in_pairs, counted, counted_alone};
+ghost use Rattle.script.specs.Calls.{plain_task, release_of};
+
+use crate::no_call::NoCall;
+use machine::Release;
+use std::alloc::{AllocError, Global};
+use tasks::{Task, Ticks};
+
+// What two numbers in turn stand for.
+pub(crate) trait FromPair: Sized + Drop {
+    ghost meaning: { ℕ → ℕ → Self };
+
+    fn from_pair(first: u32, second: u32) -> Self
+        ensures { result ≡ meaning first second };
+}
+
+// A work and a period; scripts give tasks no number.
+impl FromPair for Task {
+    ghost meaning = { plain_task };
+
+    fn from_pair(work: u32, period: u32) -> Task {
+        Task::of(0, work, period)
+    }
+}
+
+// A place and an instant.
+impl FromPair for Release {
+    ghost meaning = { release_of };
+
+    fn from_pair(place: u32, instant: u32) -> Release {
+        Release {
+            place: place as usize,
+            instant: Ticks(instant),
+        }
+    }
+}
+
+// What numbers stand for two by two.
+fn pairs<T: FromPair>(alloc: Global, numbers: &[u32]) -> Result<Vec<T>, AllocError>
+    ensures { IfOk result (λ v. v.items ≡ in_pairs T.meaning numbers.now) }
+{
+    let mut all = Vec::new(alloc);
+    let mut left = numbers;
+    while let [first, second, rest @ ..] = left {
+        all.push(T::from_pair(*first, *second))?;
+        left = rest;
+    }
+    Ok(all)
+}
+
+// So many numbers, two for each, and what stands behind them.
+fn split_pairs(count: u32, rest: &[u32]) -> Option<(&[u32], &[u32])>
+    ensures { MatchOption result (length rest.now < count + count) (λ p. IsSplitAt rest.now (count + count) p.0.now p.1.now) }
+{
+    rest.split_at_checked(2 * count as usize)
+}
+
+// `N A1 B1 .. AN BN`, and what stands behind it.
+pub(crate) fn counted<T: FromPair>(
+    alloc: Global,
+    numbers: &[u32],
+) -> Result<(Vec<T>, &[u32]), NoCall>
+    ensures { Reads (λ x. (vec_items x.0, x.1.now)) (counted T.meaning numbers.now) result }
+{
+    let [count, rest @ ..] = numbers else {
+        return Err(NoCall::Unreadable);
+    };
+    let (these, behind) = split_pairs(*count, rest).ok_or(NoCall::Unreadable)?;
+    Ok((pairs(alloc, these)?, behind))
+}
+
+// `N A1 B1 .. AN BN`, and nothing behind it.
+pub(crate) fn counted_alone<T: FromPair>(alloc: Global, numbers: &[u32]) -> Result<Vec<T>, NoCall>
+    ensures { Reads vec_items (counted_alone T.meaning numbers.now) result }
+{
+    let (all, behind) = counted(alloc, numbers)?;
+    if !behind.is_empty() {
+        return Err(NoCall::Unreadable);
+    }
+    Ok(all)
+}

@@ -1,5 +1,0 @@
-use Rattle.seating.proofs.Once.{admits_once}
-use Rattle.seating.proofs.admits_once.Goals as goal
-
-pub returns : goal.returns
-returns c = admits_once

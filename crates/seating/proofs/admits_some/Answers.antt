@@ -1,5 +1,0 @@
-use Rattle.seating.proofs.Answering.{admits_some}
-use Rattle.seating.proofs.admits_some.Goals as goal
-
-pub returns : goal.returns
-returns c = admits_some

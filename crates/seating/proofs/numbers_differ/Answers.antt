@@ -1,5 +1,0 @@
-use Rattle.seating.proofs.Once.{numbers_differ}
-use Rattle.seating.proofs.numbers_differ.Goals as goal
-
-pub returns : goal.returns
-returns c = numbers_differ

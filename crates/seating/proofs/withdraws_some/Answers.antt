@@ -1,5 +1,0 @@
-use Rattle.seating.proofs.Answering.{withdraws_some}
-use Rattle.seating.proofs.withdraws_some.Goals as goal
-
-pub returns : goal.returns
-returns c = withdraws_some
