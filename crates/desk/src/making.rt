@@ -25,11 +25,13 @@ pub struct Setup {
 
 /// `points F` and so on.
 impl FromStr for Setup {
+    ghost use Rattle.desk.specs.declared.making.Setup.{Setup};
+
     type Err = NoCall;
 
-    fn from_str(text: &str) -> Result<Setup, NoCall>
-        ensures { MatchResult result (λ s. text.now ≡ setup_name s.judge s.policy) (λ e. (e ≡ Unreadable) × ((s : Setup) → text.now ≢ setup_name s.judge s.policy)) }
-    {
+    ghost from_str_gives = { λ text r. MatchResult r (λ s. text ≡ setup_name s.judge s.policy) (λ e. (e ≡ Unreadable) × ((s : Setup) → text ≢ setup_name s.judge s.policy)) };
+
+    fn from_str(text: &str) -> Result<Setup, NoCall> {
         let (judge, policy) = match text {
             "points F" => (AnyJudge::Points, Policy::First),
             "points B" => (AnyJudge::Points, Policy::Best),

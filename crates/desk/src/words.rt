@@ -21,11 +21,13 @@ pub enum Word {
 
 /// The word that stands in the text; no call where there is none.
 impl FromStr for Word {
+    ghost use Rattle.desk.specs.declared.words.Word.{Word};
+
     type Err = NoCall;
 
-    fn from_str(text: &str) -> Result<Word, NoCall>
-        ensures { MatchResult result (λ w. text.now ≡ name_of w) (λ e. (e ≡ Unreadable) × ((w : Word) → text.now ≢ name_of w)) }
-    {
+    ghost from_str_gives = { λ text r. MatchResult r (λ w. text ≡ name_of w) (λ e. (e ≡ Unreadable) × ((w : Word) → text ≢ name_of w)) };
+
+    fn from_str(text: &str) -> Result<Word, NoCall> {
         match text {
             "read" => Ok(Word::Read),
             "play" => Ok(Word::Play),

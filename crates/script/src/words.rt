@@ -17,11 +17,13 @@ pub enum Word {
 }
 
 impl FromStr for Word {
+    ghost use Rattle.script.specs.declared.words.Word.{Word};
+
     type Err = NoCall;
 
-    fn from_str(text: &str) -> Result<Word, NoCall>
-        ensures { MatchResult result (λ w. text.now ≡ name_of w) (λ e. (e ≡ Unreadable) × ((w : Word) → text.now ≢ name_of w)) }
-    {
+    ghost from_str_gives = { λ text r. MatchResult r (λ w. text ≡ name_of w) (λ e. (e ≡ Unreadable) × ((w : Word) → text ≢ name_of w)) };
+
+    fn from_str(text: &str) -> Result<Word, NoCall> {
         match text {
             "judge" => Ok(Word::Judge),
             "demand" => Ok(Word::Demand),
