@@ -4,7 +4,7 @@ ghost use Rattle.script.specs.NoCalls.{Reads};
 ghost use Rattle.script.specs.Fields.{with_digit, step_of, numbers_of};
 
 use crate::no_call::NoCall;
-use std::alloc::{AllocError, Global};
+use std::alloc::Global;
 
 /// What one more byte does to the number that is being read.
 #[derive(Clone, Copy)]
@@ -45,12 +45,11 @@ pub fn numbers(alloc: Global, text: &[u8]) -> Result<Vec<u32>, NoCall>
         match read_byte(so_far, *b).ok_or(NoCall::Unreadable)? {
             Step::Digit(n) => so_far = Some(n),
             Step::Gap(n) => {
-                all.push(n).map_err(AllocError::from)?;
+                all.push(n)?;
                 so_far = None;
             }
         }
     }
-    all.push(so_far.ok_or(NoCall::Unreadable)?)
-        .map_err(AllocError::from)?;
+    all.push(so_far.ok_or(NoCall::Unreadable)?)?;
     Ok(all)
 }
