@@ -12,14 +12,14 @@ use tasks::Task;
 
 /// A processor that would take the newcomer, as a preference sees it, with its trial.
 #[derive(Drop)]
-pub struct Taker {
+pub(crate) struct Taker {
     pub(crate) contender: Contender,
     pub(crate) trial: Trial,
 }
 
 /// The best taker so far, and while there is none what the sheet is to say of each processor.
 #[derive(Drop)]
-pub struct Choice {
+pub(crate) struct Choice {
     pub(crate) best: Option<Taker>,
     pub(crate) entries: ArrayVec<u32, 16>,
 }

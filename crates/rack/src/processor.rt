@@ -12,8 +12,8 @@ use std::marker::Model;
 use tasks::Task;
 
 /// The seats of a processor, each of a task within the limits, and the sum of their shares.
-#[derive(Default, Drop)]
-pub struct Processor {
+#[derive(Debug, Default, Drop)]
+pub(crate) struct Processor {
     table: SeatTable,
     load: u64,
 }

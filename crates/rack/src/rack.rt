@@ -11,7 +11,8 @@ use seating::MakeRefusal;
 use std::marker::Model;
 
 /// A rack of 1 to 16 processors, with the judge and the preference that it was made with.
-#[derive(Drop)]
+// No `==`: at a type with a model it cannot be derived, and nobody compares racks.
+#[derive(Debug, Drop)]
 pub struct Rack<J, P> {
     pub(crate) processors: ArrayVec<Processor, 16>,
     pub(crate) judge: J,

@@ -9,8 +9,8 @@ use std::marker::Model;
 use tasks::{Task, Ticks};
 
 /// At most 32 seats: the first `taken` of a fixed array hold tasks.
-#[derive(Drop)]
-pub struct SeatTable {
+#[derive(Debug, Drop)]
+pub(crate) struct SeatTable {
     seats: [Seat; 32],
     taken: usize,
 }

@@ -32,7 +32,7 @@ impl Refused {
     }
 }
 
-// A conversion for each enum, so that `?` carries it: a generic one would say no less, and needs a trait.
+// A conversion for each enum: a generic one would need a trait of the four, and say no more.
 impl From<MakeRefusal> for Refused {
     ghost from_gives = { λ refusal refused. refused ≡ Making refusal };
 

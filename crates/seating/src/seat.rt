@@ -1,3 +1,4 @@
+// A taken seat.
 ghost use Rattle.std.specs.Prelude.{◌≡◌};
 ghost use Rattle.seating.specs.Seats.{with_instant};
 
