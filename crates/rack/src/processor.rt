@@ -41,7 +41,7 @@ fn share(task: Task) -> u64
 }
 
 // A load with the share of one task more.
-fn more(load: u64, task: Task) -> u64
+fn with_share(load: u64, task: Task) -> u64
     requires limits { within_limits task ≡ true }
     requires small { load ≤ 32000000 }
     ensures { result ≡ load + share_of task }
@@ -50,7 +50,7 @@ fn more(load: u64, task: Task) -> u64
 }
 
 // A load without the share of a task.
-fn less(load: u64, task: Task) -> u64
+fn without_share(load: u64, task: Task) -> u64
     requires limits { within_limits task ≡ true }
     requires part { share_of task ≤ load }
     ensures { result ≡ load - share_of task }
@@ -90,7 +90,7 @@ impl Processor {
         ensures { SeatedWith newcomer trial.now.instants.items self.old self.new }
     {
         self.table.seat(newcomer, trial);
-        self.load = more(self.load, newcomer);
+        self.load = with_share(self.load, newcomer);
     }
 
     /// The seat at `at` leaves, and its share.
@@ -100,7 +100,7 @@ impl Processor {
         ensures value { result ≡ slice_index_or self.old at no_seat }
     {
         let seat = self.table.remove(at);
-        self.load = less(self.load, seat.task);
+        self.load = without_share(self.load, seat.task);
         seat
     }
 }

@@ -33,7 +33,7 @@ impl<J, P> Model for Rack<J, P> {
 fn may_have(processors: usize) -> bool
     ensures { result ≡ (nat_le 1 processors && nat_le processors 16) }
 {
-    1 <= processors && processors <= 16
+    (1..=16).contains(&processors)
 }
 
 // So many processors with all seats free.

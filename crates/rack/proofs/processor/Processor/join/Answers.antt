@@ -6,8 +6,8 @@ use Rattle.seating.proofs.Limiting.{within_joined, load_joined, load_bound}
 use Rattle.seating.proofs.Placing.{length-tasks}
 use Rattle.rack.proofs.processor.Processor.join.Goals as goal
 
-pub more-self-inside-requires : goal.more-self-inside-requires
-more-self-inside-requires c =
+pub with_share-self-inside-requires : goal.with_share-self-inside-requires
+with_share-self-inside-requires c =
     let ss = c.self.inside.table in
     record {
       limits = c.requires.limits;
@@ -18,6 +18,6 @@ pub invariant_of-self : goal.invariant_of-self
 invariant_of-self c =
     let ts = tasks_of c.self.inside.table in
     let w = c.seat.ensures.tasks in (
-      omega (arith, ap load_of w, load_joined c.args.newcomer ts, c.self.invariant.0, c.more-self-inside.ensures),
+      omega (arith, ap load_of w, load_joined c.args.newcomer ts, c.self.invariant.0, c.with_share-self-inside.ensures),
       ap all_within w ∙ within_joined c.args.newcomer ts c.requires.limits c.self.invariant.1,
     )
