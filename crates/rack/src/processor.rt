@@ -1,8 +1,8 @@
 // One processor of a rack.
-ghost use Rattle.std.specs.Prelude.{◌≡◌, ◌+◌, ◌-◌, ◌<◌, ◌≤◌, true, [], length, nat_le, slice_index_or};
+ghost use Rattle.std.specs.Prelude.{◌≡◌, ◌+◌, ◌-◌, ◌<◌, ◌≤◌, true, [], length, nat_le, slice_index_or, unwrap_or};
 ghost use Rattle.std.specs.List.{remove};
 ghost use Rattle.tasks.specs.Limits.{within_limits};
-ghost use Rattle.tasks.specs.Share.{share_of};
+ghost use Rattle.tasks.specs.Share.{share_answer};
 ghost use Rattle.seating.specs.Seats.{tasks_of, load_of, no_seat};
 
 use super::seat_table::SeatTable;
@@ -31,10 +31,9 @@ impl Model for Processor {
     ghost invariant = { λ p. (p.load ≡ load_of (tasks_of p.table)) × (all_within (tasks_of p.table) ≡ true) };
 }
 
-// The share of a task within the limits.
+// The share of a task, or 0 outside the limits, where it has none.
 fn share(task: Task) -> u64
-    requires { within_limits task ≡ true }
-    ensures value { result ≡ share_of task }
+    ensures value { result ≡ unwrap_or (share_answer task) 0 }
     ensures bound { result ≤ 1000000 }
 {
     task.share().map_or(0, u64::from)
@@ -42,18 +41,16 @@ fn share(task: Task) -> u64
 
 // A load with the share of one task more.
 fn with_share(load: u64, task: Task) -> u64
-    requires limits { within_limits task ≡ true }
-    requires small { load ≤ 32000000 }
-    ensures { result ≡ load + share_of task }
+    requires { load ≤ 32000000 }
+    ensures { result ≡ load + unwrap_or (share_answer task) 0 }
 {
     load + share(task)
 }
 
 // A load without the share of a task.
 fn without_share(load: u64, task: Task) -> u64
-    requires limits { within_limits task ≡ true }
-    requires part { share_of task ≤ load }
-    ensures { result ≡ load - share_of task }
+    requires { unwrap_or (share_answer task) 0 ≤ load }
+    ensures { result ≡ load - unwrap_or (share_answer task) 0 }
 {
     load - share(task)
 }
