@@ -1,5 +1,5 @@
 // The seats of one processor.
-ghost use Rattle.std.specs.Prelude.{◌≡◌, ◌<◌, ◌≤◌, [], length, slice_index_or};
+ghost use Rattle.std.specs.Prelude.{◌≡◌, ◌<◌, ◌≤◌, length, slice_index_or};
 ghost use Rattle.std.specs.List.{insert, remove};
 ghost use Rattle.seating.specs.Seats.{no_seat};
 
@@ -9,7 +9,7 @@ use std::marker::Model;
 use tasks::{Task, Ticks};
 
 /// At most 32 seats: the first `taken` of a fixed array hold tasks.
-#[derive(Debug, Drop)]
+#[derive(Debug, Default, Drop)]
 pub(crate) struct SeatTable {
     seats: [Seat; 32],
     taken: usize,
@@ -86,21 +86,5 @@ impl SeatTable {
         self.seats[at..self.taken].rotate_left(1);
         self.taken -= 1;
         seat
-    }
-}
-
-// By hand: a seat has no default of its own.
-impl Default for SeatTable {
-    ghost is_default = { λ t. t ≡ [] };
-
-    fn default() -> SeatTable {
-        let free = Seat {
-            task: Task::default(),
-            instant: Ticks::default(),
-        };
-        SeatTable {
-            seats: [free; 32],
-            taken: 0,
-        }
     }
 }
