@@ -67,9 +67,8 @@ impl<'a> Question<'a> {
         if is_done(demand, t) {
             return Weighed::Done;
         }
-        match Speed::one().ticks_for(demand) {
-            Some(later) => Weighed::NotBefore(later),
-            None => Weighed::Never,
-        }
+        Speed::one()
+            .ticks_for(demand)
+            .map_or(Weighed::Never, Weighed::NotBefore)
     }
 }
