@@ -17,20 +17,19 @@ pub enum Answer {
     Demand(Option<Units>),
     /// A share.
     Share(Option<u32>),
-    /// How a run of the machine ended.
-    Ended(Outcome),
-    /// The first cause to refuse the run.
-    Refused(Refusal),
+    /// How a run of the machine ended, or the first cause to refuse it.
+    Run(Result<Outcome, Refusal>),
 }
 
 // How the run of the machine ends, or the first cause to refuse it.
 fn run_answer(run: &Rehearsal) -> Answer
     ensures { result ≡ run_answer (seen_run run.now) }
 {
-    match rehearse(run.tasks.as_slice(), run.horizon, run.releases.as_slice()) {
-        Ok(outcome) => Answer::Ended(outcome),
-        Err(refusal) => Answer::Refused(refusal),
-    }
+    Answer::Run(rehearse(
+        run.tasks.as_slice(),
+        run.horizon,
+        run.releases.as_slice(),
+    ))
 }
 
 /// What the call is answered.

@@ -58,11 +58,11 @@ impl fmt::Display for Answer {
                 let share = OrDash(share.map(u64::from));
                 write!(f, "{share}")
             }
-            Answer::Ended(outcome) => {
+            Answer::Run(Ok(outcome)) => {
                 let ending = Ending(outcome);
                 write!(f, "{ending}")
             }
-            Answer::Refused(refusal) => {
+            Answer::Run(Err(refusal)) => {
                 let number = refusal.number();
                 write!(f, "R{number}")
             }

@@ -66,9 +66,7 @@ pub(crate) fn counted<T: FromPair>(
 ) -> Result<(Vec<T>, &[u32]), NoCall>
     ensures { Reads (λ x. (vec_items x.0, x.1.now)) (counted T.meaning numbers.now) result }
 {
-    let [count, rest @ ..] = numbers else {
-        return Err(NoCall::Unreadable);
-    };
+    let (count, rest) = numbers.split_first().ok_or(NoCall::Unreadable)?;
     let (these, behind) = split_pairs(*count, rest).ok_or(NoCall::Unreadable)?;
     Ok((pairs(alloc, these)?, behind))
 }
