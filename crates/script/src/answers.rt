@@ -38,9 +38,9 @@ pub fn answer_for(call: &Call) -> Answer
 {
     match call {
         Call::Judge { task, above } => {
-            let first = Points.ask(*task, above.as_slice());
-            let second = StepUp.ask(*task, above.as_slice());
-            Answer::Instants(first, second)
+            let points = Points.ask(*task, above.as_slice());
+            let step_up = StepUp.ask(*task, above.as_slice());
+            Answer::Instants(points, step_up)
         }
         Call::Demand { task, at, above } => Answer::Demand(demand_at(*task, above.as_slice(), *at)),
         Call::Share { task } => Answer::Share(task.share()),
