@@ -42,10 +42,10 @@ pub(crate) fn releases_now<'a>(releases: &'a [Release], instant: Ticks) -> &'a [
 fn is_due(release: &Release, instant: Ticks, count: usize) -> bool
     ensures { result ≡ (release.now.instant.0 == instant.0 && nat_lt release.now.place count) }
 {
-    release.instant == instant && release.place < count
+    is_now(release, instant) && release.place < count
 }
 
-// The releases that are now come to their tasks, wherever they stand in the list.
+// The releases that are now come to their tasks, wherever they stand in the list. The states stand beside the tasks, since only they change.
 fn release_all(tasks: &[Task], releases: &[Release], instant: Ticks, states: &mut [State])
     requires sizes { length states.old ≡ length tasks.now }
     requires fits { deadlines_fit tasks.now instant.0 ≡ true }

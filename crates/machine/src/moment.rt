@@ -37,6 +37,7 @@ pub fn step(
 ) -> Option<Moment>
     ensures { Stepped tasks.now releases.now instant.0 states.old states.new result }
 {
+    // None and no error, as of a checked sum: the step cannot be done, and the rules have no number for that.
     if !can_step(tasks, instant, states) {
         return None;
     }

@@ -44,14 +44,12 @@ impl<'a> Run<'a> {
     {
         let instant = self.clock.instant;
         let now = releases_now(&self.plan.releases[self.cursor..], instant);
-        match one_instant(self.plan.tasks, now, instant, states) {
-            Moment::Missed(place) => Moment::Missed(place),
-            Moment::Went(busy) => {
-                self.cursor += now.len();
-                self.clock = self.clock.after(busy);
-                Moment::Went(busy)
-            }
+        let moment = one_instant(self.plan.tasks, now, instant, states);
+        if let Moment::Went(busy) = moment {
+            self.cursor += now.len();
+            self.clock = self.clock.after(busy);
         }
+        moment
     }
 }
 
@@ -62,6 +60,7 @@ impl<'a> Plan<'a> {
     pub fn run(&self) -> Outcome
         ensures { result ≡ outcome self.now.tasks.now self.now.horizon.0 self.now.releases.now }
     {
+        // fixed memory: a run allocates nothing
         let mut all = [State::Idle; 33];
         let states = &mut all[..self.tasks.len()];
         let mut run = Run::start(*self);

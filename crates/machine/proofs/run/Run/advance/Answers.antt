@@ -10,15 +10,15 @@ use Rattle.machine.proofs.Separated.{orderly, near_fits}
 use Rattle.machine.proofs.Running.{went_few, allowed_tasks, allowed_lawful}
 use Rattle.machine.proofs.run.Run.advance.Goals as goal
 
-pub one_instant-requires-clause-fits : goal.one_instant-requires-clause-fits
-one_instant-requires-clause-fits c =
+pub one_instant-moment-requires-clause-fits : goal.one_instant-moment-requires-clause-fits
+one_instant-moment-requires-clause-fits c =
     let self = c.args.self.now in
     near_fits self.plan.tasks.now self.clock.instant.0 (allowed_tasks self.plan.tasks.now self.plan.runs).1 (omega (arith, leb-true self.plan.horizon.0 2000000 self.plan.near, self.below))
 
 pub after-self-requires-clause-busy : goal.after-self-requires-clause-busy
 after-self-requires-clause-busy c =
     let self = c.args.self.now in
-    went_few self.plan.tasks.now c.releases_now-now.result.now self.clock.instant.0 c.args.states.now c.in-Went.busy.0 c.one_instant.new.states (sym c.in-Went.ensures)
+    went_few self.plan.tasks.now c.releases_now-now.result.now self.clock.instant.0 c.args.states.now c.in-Went.busy.0 c.one_instant-moment.new.states (sym c.in-Went.ensures)
 
 pub invariant_of-self : goal.invariant_of-self
 invariant_of-self c =
