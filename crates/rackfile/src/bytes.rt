@@ -66,9 +66,7 @@ impl<'a> Reader<'a> {
     pub(crate) fn part(&mut self, n: usize) -> Result<&'a [u8], BytesFault>
         ensures { Reads (λ part. part.now) self.old self.new result (field self.old.whole (take_part n self.old.left.now)) }
     {
-        let Some((part, rest)) = self.left.split_at_checked(n) else {
-            return Err(self.cut());
-        };
+        let (part, rest) = self.left.split_at_checked(n).ok_or(self.cut())?;
         self.left = rest;
         Ok(part)
     }
