@@ -5,7 +5,7 @@ ghost use Rattle.rackfile.specs.Records.{length_allowed};
 ghost use Rattle.lines.specs.Texts.{seen_as, head_text, tail_text, writable};
 ghost use Rattle.lines.specs.Writing.{Written};
 
-use crate::text::{Text, put, put_field, put_fields, put_number, put_refusal};
+use crate::text::{Text, put, put_behind, put_fields, put_number};
 
 /// What a line says. All its numbers have 32 bits, so that the longest line has room in 64 bytes.
 #[derive(Clone, Copy, Debug, PartialEq, Eq)]
@@ -42,11 +42,11 @@ pub enum Line<'a> {
     },
 }
 
-// Whether a label may be written.
+// Whether a label may be written. The file's rule stated again: a line may be of a label that no file gave.
 fn is_label(label: &[u8]) -> bool
     ensures { result ≡ length_allowed (length label.now) }
 {
-    1 <= label.len() && label.len() <= 16
+    (1..=16).contains(&label.len())
 }
 
 // Whether a line can be written.
@@ -93,9 +93,9 @@ fn put_tail(text: &mut Text, line: Line<'_>)
             instant,
             ..
         } => put_fields(text, processor, instant),
-        Line::Withdrawn { processor, .. } => put_field(text, processor),
+        Line::Withdrawn { processor, .. } => put_behind(text, b" ", processor),
         Line::NotAdmitted { refusal, .. } | Line::NotWithdrawn { refusal, .. } => {
-            put_refusal(text, refusal)
+            put_behind(text, b" R", refusal)
         }
         Line::Unreadable { number, place } => put_fields(text, number, place),
     }
@@ -107,6 +107,7 @@ fn put_tail(text: &mut Text, line: Line<'_>)
 pub fn write_line(out: &mut [u8; 64], line: Line<'_>) -> usize
     ensures { Written out.old out.new (seen_as line.entry) result }
 {
+    // The caller's buffer, and the length answered beside it: nothing is allocated.
     if !is_writable(line) {
         return 0;
     }

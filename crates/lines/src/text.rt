@@ -1,7 +1,7 @@
 // The text of a line while it is put together. Each call asks for the room that it fills, another with each, so none allocates and none fails.
 ghost use Rattle.std.specs.Prelude.{◌≡◌, ◌+◌, ◌≤◌, ◌++◌, length, decimal};
 ghost use Rattle.arrayvec.specs.ArrayVec.{array_vec_len};
-ghost use Rattle.lines.specs.Texts.{field_text, refusal_text};
+ghost use Rattle.lines.specs.Texts.{field_text};
 
 use arrayvec::ArrayVec;
 use itoa::Buffer;
@@ -27,13 +27,13 @@ pub(crate) fn put_number(text: &mut Text, n: u32)
     put(text, Buffer::new().format(n).as_bytes());
 }
 
-// A number behind a space.
-pub(crate) fn put_field(text: &mut Text, n: u32)
-    requires { array_vec_len text.old + 11 ≤ 64 }
-    ensures items { text.new.items ≡ text.old.items ++ field_text n }
-    ensures bound { array_vec_len text.new ≤ array_vec_len text.old + 11 }
+// A number behind a mark, which is a space, or a space and a letter.
+pub(crate) fn put_behind(text: &mut Text, mark: &[u8], n: u32)
+    requires { array_vec_len text.old + (length mark.now + 10) ≤ 64 }
+    ensures items { text.new.items ≡ text.old.items ++ (mark.now ++ decimal n) }
+    ensures bound { array_vec_len text.new ≤ array_vec_len text.old + (length mark.now + 10) }
 {
-    put(text, b" ");
+    put(text, mark);
     put_number(text, n);
 }
 
@@ -43,16 +43,6 @@ pub(crate) fn put_fields(text: &mut Text, first: u32, second: u32)
     ensures items { text.new.items ≡ text.old.items ++ (field_text first ++ field_text second) }
     ensures bound { array_vec_len text.new ≤ array_vec_len text.old + 22 }
 {
-    put_field(text, first);
-    put_field(text, second);
-}
-
-// The number of a refusal, behind a space and the letter R.
-pub(crate) fn put_refusal(text: &mut Text, n: u32)
-    requires { array_vec_len text.old + 12 ≤ 64 }
-    ensures items { text.new.items ≡ text.old.items ++ refusal_text n }
-    ensures bound { array_vec_len text.new ≤ array_vec_len text.old + 12 }
-{
-    put(text, b" R");
-    put_number(text, n);
+    put_behind(text, b" ", first);
+    put_behind(text, b" ", second);
 }
