@@ -12,7 +12,8 @@ use rackfile::{RackFile, Record, read_file};
 use std::alloc::Global;
 
 /// A rack with the points judge and the file's policy, and the records that are to be played on it.
-#[derive(Drop)]
+// No `==`, as the rack has none.
+#[derive(Debug, Drop)]
 pub struct Play<'a> {
     pub rack: Rack<Points, Policy>,
     pub records: Vec<Record<'a>>,
