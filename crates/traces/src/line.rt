@@ -7,7 +7,7 @@ use machine::State;
 use std::fmt;
 use tasks::Ticks;
 
-// Places, each behind a comma.
+// Places, each behind a comma. Apart from the states below: those are shown as `Doing`, which their slice does not hold.
 #[derive(Clone, Copy)]
 struct BehindCommas<'a>(&'a [usize]);
 
@@ -50,9 +50,7 @@ impl fmt::Display for Doing {
     fn fmt<W: fmt::Write>(&self, f: &mut fmt::Formatter<W>) -> fmt::Result {
         match self.0 {
             State::Idle => write!(f, "-"),
-            State::Waiting { left, deadline } => {
-                write!(f, "{left}@{deadline}")
-            }
+            State::Waiting { left, deadline } => { write!(f, "{left}@{deadline}") }
         }
     }
 }
