@@ -2,7 +2,7 @@
 ghost use Rattle.std.specs.Prelude.{◌≡◌, ◌&&◌};
 ghost use Rattle.machine.specs.Moments.{deadline_fits, deadlines_fit, can_step, Stepped};
 
-use crate::instant::one_instant;
+use crate::instant::Now;
 use crate::state::{Moment, Release, State};
 use tasks::{Task, Ticks};
 
@@ -41,5 +41,10 @@ pub fn step(
     if !can_step(tasks, instant, states) {
         return None;
     }
-    Some(one_instant(tasks, releases, instant, states))
+    let now = Now {
+        tasks,
+        releases,
+        instant,
+    };
+    Some(now.go_by(states))
 }

@@ -3,7 +3,7 @@ ghost use Rattle.std.specs.Prelude.{◌≡◌, ◌<◌, ◌≤◌, length};
 ghost use Rattle.machine.specs.Cursor.{Cursor};
 
 use crate::clock::Clock;
-use crate::instant::{one_instant, releases_now};
+use crate::instant::{Now, releases_now};
 use crate::plan::Plan;
 use crate::state::{Moment, Outcome, State};
 
@@ -43,10 +43,15 @@ impl<'a> Run<'a> {
         ensures step { Done self.old.plan.tasks.now self.old.plan.releases.now self.old.clock.instant.0 states.old states.new result }
     {
         let instant = self.clock.instant;
-        let now = releases_now(&self.plan.releases[self.cursor..], instant);
-        let moment = one_instant(self.plan.tasks, now, instant, states);
+        let releases = releases_now(&self.plan.releases[self.cursor..], instant);
+        let now = Now {
+            tasks: self.plan.tasks,
+            releases,
+            instant,
+        };
+        let moment = now.go_by(states);
         if let Moment::Went(busy) = moment {
-            self.cursor += now.len();
+            self.cursor += releases.len();
             self.clock = self.clock.after(busy);
         }
         moment
