@@ -1,6 +1,5 @@
 // One line of the player.
 ghost use Rattle.std.specs.Prelude.{◌≡◌, ◌+◌, ◌≤◌, ◌++◌, true, length, codes};
-ghost use Rattle.arrayvec.specs.ArrayVec.{array_vec_len};
 ghost use Rattle.rackfile.specs.Records.{length_allowed};
 ghost use Rattle.lines.specs.Texts.{seen_as, head_text, tail_text, writable};
 ghost use Rattle.lines.specs.Writing.{Written};
@@ -62,8 +61,8 @@ fn is_writable(line: Line<'_>) -> bool
 // What a line begins with.
 fn head(line: Line<'_>) -> Text
     requires { writable (seen_as line) ≡ true }
-    ensures items { result.bytes.items ≡ head_text (seen_as line.entry) }
-    ensures bound { array_vec_len result.bytes ≤ 29 }
+    ensures items { result ≡ head_text (seen_as line.entry) }
+    ensures bound { length result ≤ 29 }
 {
     let mut text = Text::new();
     match line {
@@ -84,8 +83,8 @@ fn head(line: Line<'_>) -> Text
 
 // What it ends with.
 fn put_tail(text: &mut Text, line: Line<'_>)
-    requires { array_vec_len text.old.bytes + 23 ≤ 64 }
-    ensures { text.new.bytes.items ≡ text.old.bytes.items ++ (tail_text (seen_as line.entry) ++ codes "\n") }
+    requires { length text.old + 23 ≤ 64 }
+    ensures { text.new ≡ text.old ++ (tail_text (seen_as line.entry) ++ codes "\n") }
 {
     match line {
         Line::Admitted {
