@@ -75,11 +75,11 @@ module _ (mean : Meaning) (bef : Relation) (laws : PreferenceLaws bef) (b : List
 
 -- the choice of one processor more
 module _ (mean : Meaning) (bef : Relation) (laws : PreferenceLaws bef) (b : Lists) (x : Task) (p : ℕ) (ss : List Seat) (here : on b p ≡ ss) (said : Meaning) (same : said ≡ mean) (c : Choice) (old : Chosen mean bef b x p c) where
-  pub offered : (f : Relation) (t : Trial) (k : Taker) (those : List Seat) (d e : Choice) → f ≡ bef → ss ≡ those → k ≡ record { contender = seen_with those p; trial = t }
+  pub offered : (f : Relation) (t : Trial) (k : Taker) (d e : Choice) → f ≡ bef → k ≡ record { contender = seen_with ss p; trial = t }
       → d ≡ record { best = Some (better_of f c.best k); entries = c.entries } → e ≡ d → Took said x ss t → Chosen mean bef b x (p + 1) e
-  offered f t k those d e fs list ks ds es took =
+  offered f t k d e fs ks ds es took =
       let now : Took mean x (on b p) t = subst (λ (l : List Seat). Took mean x l t) (sym here) (subst (λ (m : Meaning). Took m x ss t) same took) in
-      let seen : ◌≡◌ {A = Taker} (record { contender = seen_with those p; trial = t }) (record { contender = seen_with (on b p) p; trial = t }) = ap (λ (l : List Seat). record { contender = seen_with l p; trial = t }) (sym (here ∙ list)) in
+      let seen : ◌≡◌ {A = Taker} (record { contender = seen_with ss p; trial = t }) (record { contender = seen_with (on b p) p; trial = t }) = ap (λ (l : List Seat). record { contender = seen_with l p; trial = t }) (sym here) in
       let is : e ≡ record { best = Some (better_of bef c.best (record { contender = seen_with (on b p) p; trial = t })); entries = c.entries } = es ∙ ds ∙ ap (λ (g : Relation). record { best = Some (better_of g c.best k); entries = c.entries }) fs
       ∙ ap (λ (y : Taker). record { best = Some (better_of bef c.best y); entries = c.entries }) (ks ∙ seen) in
       subst (λ (v : Choice). Chosen mean bef b x (p + 1) v) (sym is) (record { few = omega (arith, old.few); best = taker_more mean bef laws b x p c.entries.items t c.best now old.best })

@@ -19,6 +19,7 @@ pub struct Rack<J, P> {
     pub(crate) preference: P,
 }
 
+// Each call says `Sound` again: callers see a rack's value alone, and a proof inside the value would stand in every equation of two racks.
 impl<J, P> Model for Rack<J, P> {
     ghost use Rattle.rack.specs.Table.{Table, Sound};
 

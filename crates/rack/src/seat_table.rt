@@ -9,6 +9,7 @@ use std::marker::Model;
 use tasks::{Task, Ticks};
 
 /// At most 32 seats: the first `taken` of a fixed array hold tasks.
+// An array and its count, and no ArrayVec: the fixed array of a processor is a rule of the project.
 #[derive(Debug, Default, Drop)]
 pub(crate) struct SeatTable {
     seats: [Seat; 32],
@@ -51,6 +52,7 @@ impl SeatTable {
     }
 
     /// Another kept instant for the seat at `at`.
+    // That the place is taken is asked at each call: a place that carried it would have to carry the table.
     pub(crate) fn renew(&mut self, at: usize, instant: Ticks)
         requires { at < length self.old }
         ensures { self.new ≡ renewed self.old at instant }
