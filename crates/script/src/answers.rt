@@ -25,11 +25,7 @@ pub enum Answer {
 fn run_answer(run: &Rehearsal) -> Answer
     ensures { result ≡ run_answer (seen_run run.now) }
 {
-    Answer::Run(rehearse(
-        run.tasks.as_slice(),
-        run.horizon,
-        run.releases.as_slice(),
-    ))
+    Answer::Run(rehearse(run.tasks.as_slice(), run.horizon, run.releases.as_slice()))
 }
 
 /// What the call is answered.
