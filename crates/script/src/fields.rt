@@ -20,7 +20,7 @@ fn with_digit(n: u32, b: u8) -> Option<u32>
 pub fn numbers(alloc: Global, text: &[u8]) -> Result<Vec<u32>, NoCall>
     ensures { Reads vec_items (numbers_of text.now) result }
 {
-    // Read by hand: the library's `split` of bytes does not promise what its parts hold, and its `parse` takes a text, and a sign too.
+    // Read by hand: by `split`, each part of the bytes would be made a text for `parse`, and looked at for a sign, which it takes too.
     let mut all = Vec::new(alloc);
     let mut so_far = None;
     for b in text {

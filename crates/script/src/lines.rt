@@ -8,7 +8,7 @@ use crate::calls::{Call, read};
 use crate::no_call::NoCall;
 use machine::Outcome;
 use std::alloc::{AllocError, Global};
-use std::fmt;
+use std::fmt::{self, Display};
 use traces::{OrDash, trace_text};
 
 // How a run ended.
@@ -41,22 +41,10 @@ impl fmt::Display for Answer {
                 let step_up = OrDash(step_up);
                 write!(f, "{points} {step_up}")
             }
-            Answer::Demand(demand) => {
-                let demand = OrDash(demand);
-                write!(f, "{demand}")
-            }
-            Answer::Share(share) => {
-                let share = OrDash(share);
-                write!(f, "{share}")
-            }
-            Answer::Run(Ok(outcome)) => {
-                let ending = Ending(outcome);
-                write!(f, "{ending}")
-            }
-            Answer::Run(Err(refusal)) => {
-                let number = refusal.number();
-                write!(f, "R{number}")
-            }
+            Answer::Demand(demand) => OrDash(demand).fmt(f),
+            Answer::Share(share) => OrDash(share).fmt(f),
+            Answer::Run(Ok(outcome)) => Ending(outcome).fmt(f),
+            Answer::Run(Err(refusal)) => refusal.fmt(f),
         }
     }
 }
