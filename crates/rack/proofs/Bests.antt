@@ -1,5 +1,6 @@
 -- The best of one processor more.
 use Rattle.std.proofs.Common.{◌≡◌, ℕ, ◌+◌, ◌<◌, true, ◌≢◌, List, [], ◌∷◌, ◌++◌, length, get_or, Some, None, Option, sym, refl, ap, ◌∙◌, subst, ⊎_elim, arith, below_more}
+use Rattle.std.specs.Option.{ok_or}
 use Rattle.std.proofs.lemmas.List.{length-append, get_or_append_left}
 use Rattle.std.proofs.Math.Seq.{get_or-append_seam}
 use Rattle.std.proofs.lemmas.Bool.{cases_eq, cond_both, not_from_false}
@@ -17,7 +18,7 @@ use Rattle.rack.specs.declared.choice.Taker.{Taker}
 use Rattle.rack.specs.declared.choice.Choice.{Choice}
 use Rattle.arrayvec.specs.ArrayVec.{ArrayVec}
 use Rattle.rack.specs.Trials.{entry_of, Took, Declines}
-use Rattle.rack.specs.Choices.{better_of, Willing, Rejects, Best, Chosen}
+use Rattle.rack.specs.Choices.{better_of, Willing, Rejects, Best, ChosenSoFar, Chosen}
 
 module _ (mean : Meaning) (x : Task) (ss : List Seat) where
   pub willing : (t : Trial) → Took mean x ss t → Willing mean x ss
@@ -74,20 +75,25 @@ module _ (mean : Meaning) (bef : Relation) (laws : PreferenceLaws bef) (b : List
       ))
 
 -- the choice of one processor more
-module _ (mean : Meaning) (bef : Relation) (laws : PreferenceLaws bef) (b : Lists) (x : Task) (p : ℕ) (ss : List Seat) (here : on b p ≡ ss) (said : Meaning) (same : said ≡ mean) (c : Choice) (old : Chosen mean bef b x p c) where
+module _ (mean : Meaning) (bef : Relation) (laws : PreferenceLaws bef) (b : Lists) (x : Task) (p : ℕ) (ss : List Seat) (here : on b p ≡ ss) (said : Meaning) (same : said ≡ mean) (c : Choice) (old : ChosenSoFar mean bef b x p c) where
   pub offered : (f : Relation) (t : Trial) (k : Taker) (d e : Choice) → f ≡ bef → k ≡ record { contender = seen_with ss p; trial = t }
-      → d ≡ record { best = Some (better_of f c.best k); entries = c.entries } → e ≡ d → Took said x ss t → Chosen mean bef b x (p + 1) e
+      → d ≡ record { best = Some (better_of f c.best k); entries = c.entries } → e ≡ d → Took said x ss t → ChosenSoFar mean bef b x (p + 1) e
   offered f t k d e fs ks ds es took =
       let now : Took mean x (on b p) t = subst (λ (l : List Seat). Took mean x l t) (sym here) (subst (λ (m : Meaning). Took m x ss t) same took) in
       let seen : ◌≡◌ {A = Taker} (record { contender = seen_with ss p; trial = t }) (record { contender = seen_with (on b p) p; trial = t }) = ap (λ (l : List Seat). record { contender = seen_with l p; trial = t }) (sym here) in
       let is : e ≡ record { best = Some (better_of bef c.best (record { contender = seen_with (on b p) p; trial = t })); entries = c.entries } = es ∙ ds ∙ ap (λ (g : Relation). record { best = Some (better_of g c.best k); entries = c.entries }) fs
       ∙ ap (λ (y : Taker). record { best = Some (better_of bef c.best y); entries = c.entries }) (ks ∙ seen) in
-      subst (λ (v : Choice). Chosen mean bef b x (p + 1) v) (sym is) (record { few = omega (arith, old.few); best = taker_more mean bef laws b x p c.entries.items t c.best now old.best })
+      subst (λ (v : Choice). ChosenSoFar mean bef b x (p + 1) v) (sym is) (record { few = omega (arith, old.few); best = taker_more mean bef laws b x p c.entries.items t c.best now old.best })
 
-  pub declined : (d : Declined) (n : ℕ) (us : ArrayVec ℕ) (e : Choice) → n ≡ entry_of d → us.items ≡ c.entries.items ++ n ∷ [] → e ≡ record { best = c.best; entries = us } → Declines said x ss d → Chosen mean bef b x (p + 1) e
+  pub declined : (d : Declined) (n : ℕ) (us : ArrayVec ℕ) (e : Choice) → n ≡ entry_of d → us.items ≡ c.entries.items ++ n ∷ [] → e ≡ record { best = c.best; entries = us } → Declines said x ss d → ChosenSoFar mean bef b x (p + 1) e
   declined d n us e ns is es rejected =
       let now : Declines mean x (on b p) d = subst (λ (l : List Seat). Declines mean x l d) (sym here) (subst (λ (m : Meaning). Declines m x ss d) same rejected) in
-      subst (λ (v : Choice). Chosen mean bef b x (p + 1) v) (sym es) (record {
+      subst (λ (v : Choice). ChosenSoFar mean bef b x (p + 1) v) (sym es) (record {
         few = omega (arith, old.few, ap (length {A = ℕ}) is, length-append c.entries.items (n ∷ []));
         best = subst (λ (l : List ℕ). Best mean bef b x (p + 1) l c.best) (sym is) (entry_more mean bef laws b x p c.entries.items n c.best (d, now, ns) old.best);
       })
+
+-- the end of the choice
+pub chosen_so : (mean : Meaning) (bef : Relation) (b : Lists) (x : Task) (best : Option Taker) (entries : ArrayVec ℕ) → Best mean bef b x (length b) entries.items best → Chosen mean bef b x (ok_or best entries)
+chosen_so mean bef b x None entries h = h
+chosen_so mean bef b x (Some o) entries h = h

@@ -1,5 +1,5 @@
 -- An admission, put together from what was chosen and how it joined.
-use Rattle.std.proofs.Common.{◌≡◌, ℕ, ◌-◌, ◌<◌, ◌≤◌, true, List, [], ◌++◌, length, get_or, take, drop, set, Some, None, Option, Ok, refl, sym, ap, ◌∙◌, subst, inl, inr, arith}
+use Rattle.std.proofs.Common.{◌≡◌, ℕ, ◌-◌, ◌<◌, ◌≤◌, true, List, [], ◌++◌, length, get_or, take, drop, set, Some, None, Ok, Err, Result, refl, sym, ap, ◌∙◌, subst, inl, inr, arith}
 use Rattle.std.specs.List.{refill}
 use Rattle.std.proofs.lemmas.List.{get_or_append_left, length-append, length-drop, drop_at, get_or-set_same, get_or_default}
 use Rattle.tasks.specs.declared.task.Task.{Task}
@@ -20,7 +20,7 @@ use Rattle.book.specs.Book.{KeptWell}
 use Rattle.rack.specs.declared.trial.Trial.{Trial}
 use Rattle.rack.specs.declared.trial.Declined.TheVariants.{Full, Unfit}
 use Rattle.rack.specs.declared.choice.Taker.{Taker}
-use Rattle.rack.specs.declared.choice.Choice.{Choice}
+use Rattle.arrayvec.specs.ArrayVec.{ArrayVec}
 use Rattle.rack.specs.Table.{Sound}
 use Rattle.rack.specs.Trials.{Took, SeatedWith}
 use Rattle.rack.specs.Choices.{Willing, Rejects, Best, Chosen}
@@ -106,28 +106,28 @@ module _ (mean : Meaning) (laws : JudgeLaws mean) (bef : Relation) (b : Lists) (
       }
 
 -- a choice carried out: the lists and the sheet as the code leaves them
-module _ (mean : Meaning) (laws : JudgeLaws mean) (bef : Relation) (b : Lists) (x : Task) (sheet : List ℕ) (passes : earlier b x (length sheet) ≡ None) (choice : Choice) (chosen : Chosen mean bef b x (length b) choice)
+module _ (mean : Meaning) (laws : JudgeLaws mean) (bef : Relation) (b : Lists) (x : Task) (sheet : List ℕ) (passes : earlier b x (length sheet) ≡ None) (choice : Result Taker (ArrayVec ℕ)) (chosen : Chosen mean bef b x choice)
     (items : Lists) (is : items ≡ b) (held : Sound items) where
   pub sound_so : Sound b
   sound_so = subst Sound is held
 
-  best_so : (o : Option Taker) → choice.best ≡ o → Best mean bef b x (length b) choice.entries.items o
-  best_so o e = subst (λ (k : Option Taker). Best mean bef b x (length b) choice.entries.items k) e chosen.best
+  best_so : (r : Result Taker (ArrayVec ℕ)) → choice ≡ r → Chosen mean bef b x r
+  best_so r e = subst (λ (k : Result Taker (ArrayVec ℕ)). Chosen mean bef b x k) e chosen
 
   -- nobody takes the newcomer
-  pub away : choice.best ≡ None → (entries sheet' : List ℕ) → entries ≡ choice.entries.items → sheet' ≡ entries ++ drop (length entries) sheet → TurnedAway b x sheet sheet' b
-  away e entries sheet' lent filled = turned_away mean laws bef b sound_so x sheet passes choice.entries.items sheet' (best_so None e) (filled ∙ ap (λ (l : List ℕ). l ++ drop (length l) sheet) lent)
+  pub away : (es : ArrayVec ℕ) → choice ≡ Err es → (entries sheet' : List ℕ) → entries ≡ es.items → sheet' ≡ entries ++ drop (length entries) sheet → TurnedAway b x sheet sheet' b
+  away es e entries sheet' lent filled = turned_away mean laws bef b sound_so x sheet passes es.items sheet' (best_so (Err es) e) (filled ∙ ap (λ (l : List ℕ). l ++ drop (length l) sheet) lent)
 
   -- it has joined one of the processors
-  module _ (o : Taker) (e : choice.best ≡ Some o) (lent : Lists) (now : lent ≡ items) (d new : List Seat) (w : SeatedWith x o.trial.instants.items (get_or lent o.contender.number d) new) where
+  module _ (o : Taker) (e : choice ≡ Ok o) (lent : Lists) (now : lent ≡ items) (d new : List Seat) (w : SeatedWith x o.trial.instants.items (get_or lent o.contender.number d) new) where
     after : refill (length items) items (set lent o.contender.number new) ≡ set b o.contender.number new
     after = refill_set items lent o.contender.number new now ∙ ap (λ (l : Lists). set l o.contender.number new) is
 
     granted_so : Granted mean bef b x sheet o.contender.number (get_or o.trial.instants.items 0 no_ticks) sheet (set b o.contender.number new)
     granted_so =
-        let best = best_so (Some o) e in
+        let best = best_so (Ok o) e in
         let old = ap (λ (l : Lists). get_or l o.contender.number d) (now ∙ is) ∙ sym (get_or_default b o.contender.number [] d best.0) in
-        grants mean laws bef b sound_so x sheet passes choice.entries.items o new best (subst (λ (l : List Seat). SeatedWith x o.trial.instants.items l new) old w)
+        grants mean laws bef b sound_so x sheet passes [] o new best (subst (λ (l : List Seat). SeatedWith x o.trial.instants.items l new) old w)
 
     pub granted : (us : List Ticks) → us ≡ o.trial.instants.items → Granted mean bef b x sheet o.contender.number (get_or us 0 no_ticks) sheet (refill (length items) items (set lent o.contender.number new))
     granted us own = subst (λ (c : Lists). Granted mean bef b x sheet o.contender.number (get_or us 0 no_ticks) sheet c) (sym after)

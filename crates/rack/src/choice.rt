@@ -1,5 +1,5 @@
 // Which processor takes a newcomer.
-ghost use Rattle.std.specs.Prelude.{◌≡◌, length, Some};
+ghost use Rattle.std.specs.Prelude.{◌≡◌, Some};
 ghost use Rattle.seating.specs.Admission.{seen_with};
 ghost use Rattle.rack.specs.Choices.{better_of, Chosen};
 
@@ -19,9 +19,9 @@ pub(crate) struct Taker {
 
 /// The best taker so far, and while there is none what the sheet is to say of each processor.
 #[derive(Drop)]
-pub(crate) struct Choice {
-    pub(crate) best: Option<Taker>,
-    pub(crate) entries: ArrayVec<u32, 16>,
+struct Choice {
+    best: Option<Taker>,
+    entries: ArrayVec<u32, 16>,
 }
 
 impl Taker {
@@ -54,14 +54,14 @@ impl Choice {
     }
 }
 
-/// The preferred one of the processors that would take the newcomer.
+/// The preferred one of the processors that would take the newcomer, or what the sheet is to say of each.
 pub(crate) fn choose<J: Judge, P: Preference>(
     processors: &ArrayVec<Processor, 16>,
     judge: &mut J,
     preference: &mut P,
     newcomer: Task,
-) -> Choice
-    ensures chosen { Chosen (J.meaning judge.old) (P.before preference.old) processors.now.items newcomer (length processors.now.items) result }
+) -> Result<Taker, ArrayVec<u32, 16>>
+    ensures chosen { Chosen (J.meaning judge.old) (P.before preference.old) processors.now.items newcomer result }
     ensures judge { J.meaning judge.new ≡ J.meaning judge.old }
     ensures preference { P.before preference.new ≡ P.before preference.old }
 {
@@ -76,5 +76,6 @@ pub(crate) fn choose<J: Judge, P: Preference>(
             Err(declined) => choice.entries.push(declined.entry()),
         }
     }
-    choice
+    let Choice { best, entries } = choice;
+    best.ok_or(entries)
 }

@@ -1,7 +1,11 @@
-use Rattle.std.proofs.Common.{◌≡◌, [], get_or, sym, ap, ◌∙◌}
+use Rattle.std.proofs.Common.{◌≡◌, ℕ, List, [], length, get_or, Result, sym, ap, ◌∙◌, subst, arith}
 use Rattle.std.proofs.lemmas.List.{get_or_default}
 use Rattle.seating.specs.Seats.{Lists}
-use Rattle.rack.proofs.Bests.{offered, declined}
+use Rattle.arrayvec.specs.ArrayVec.{ArrayVec}
+use Rattle.seating.specs.declared.seat.Seat.{Seat}
+use Rattle.rack.specs.declared.choice.Taker.{Taker}
+use Rattle.rack.specs.Choices.{Best, Chosen}
+use Rattle.rack.proofs.Bests.{offered, declined, chosen_so}
 use Rattle.rack.proofs.choice.choose.Goals.{in-Ok, in-Err}
 use Rattle.rack.proofs.choice.choose.Goals as goal
 
@@ -31,3 +35,13 @@ loop-p-preserved g c =
         preference = ap g.P.Preference.before w.preference-is ∙ inv.preference;
       }
     ]
+
+pub returns-clause-chosen : goal.returns-clause-chosen
+returns-clause-chosen g c =
+    let mean = g.J.Judge.meaning c.args.judge.now in
+    let bef = g.P.Preference.before c.args.preference.now in
+    let ps = c.args.processors.now.items in
+    let choice = c.loop-p.choice in
+    let all : c.loop-p.p ≡ length ps = omega (arith, ap (length {A = List Seat}) c.deref-processor-items.ensures.0, c.loop-p-test.false) in
+    subst (λ (r : Result Taker (ArrayVec ℕ)). Chosen mean bef ps c.args.newcomer r) (sym c.ok_or.ensures.value)
+    (chosen_so mean bef ps c.args.newcomer choice.best choice.entries (subst (λ (k : ℕ). Best mean bef ps c.args.newcomer k choice.entries.items choice.best) all c.loop-p.invariant.chosen.best))

@@ -1,4 +1,4 @@
-use Rattle.std.proofs.Common.{length, sym, subst}
+use Rattle.std.proofs.Common.{sym, subst}
 use Rattle.judges.specs.Laws.{Meaning}
 use Rattle.preferences.specs.Laws.{Relation}
 use Rattle.rack.specs.Choices.{Chosen}
@@ -11,5 +11,5 @@ settle-requires-clause-chosen g c =
     let b = c.self.inside.processors.items in
     let x = c.args.task in
     let choice = c.choose-choice.result in
-    subst (λ (f : Relation). Chosen mean f b x (length b) choice) (sym c.choose-choice.ensures.preference)
-    (subst (λ (m : Meaning). Chosen m (g.P.Preference.before c.self.inside.preference) b x (length b) choice) (sym c.choose-choice.ensures.judge) c.choose-choice.ensures.chosen)
+    subst (λ (f : Relation). Chosen mean f b x choice) (sym c.choose-choice.ensures.preference)
+    (subst (λ (m : Meaning). Chosen m (g.P.Preference.before c.self.inside.preference) b x choice) (sym c.choose-choice.ensures.judge) c.choose-choice.ensures.chosen)
