@@ -1,4 +1,4 @@
-// The text of a line while it is put together. Each call asks for the room that it fills, another with each, so none allocates and none fails.
+// The text of a line while it is put together.
 ghost use Rattle.std.specs.Prelude.{◌≡◌, ◌+◌, ◌≤◌, [], ◌++◌, length, decimal};
 ghost use Rattle.lines.specs.Texts.{field_text};
 
@@ -20,6 +20,7 @@ impl Model for Text {
     ghost view = { λ text. text.bytes.items };
 }
 
+// Each call asks for the room that it fills, another with each, so none allocates and none fails.
 impl Text {
     pub(crate) fn new() -> Text
         ensures { result ≡ [] }

@@ -89,7 +89,7 @@ fn has_version(high: u8, low: u8) -> bool
     u16::from_be_bytes([high, low]) == 1
 }
 
-// Whether a rack may have so many processors.
+// Whether a rack may have so many processors: the format's rule, apart from the rack's own, which this crate does not know.
 fn is_rack_size(n: u8) -> bool
     ensures { result ≡ processors_allowed n }
 {
