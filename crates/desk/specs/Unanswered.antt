@@ -1,5 +1,5 @@
 -- Calls that have no answer of their own, and what is said in its place.
-use Rattle.std.specs.Prelude.{ℕ, List, Ok, Err, codes, Result}
+use Rattle.std.specs.Prelude.{ℕ, List, Some, None, Ok, Err, codes, Option, Result}
 use Rattle.script.specs.declared.no_call.NoCall.{NoCall}
 use Rattle.script.specs.declared.no_call.NoCall.TheVariants as call
 use Rattle.desk.specs.declared.unanswered.Unanswered.{Unanswered}
@@ -15,3 +15,9 @@ Says bytes fits (Ok a) = fits (bytes a)
 Says bytes fits (Err Unreadable) = fits (codes "?")
 Says bytes fits (Err NoRack) = fits (codes "no rack")
 Says bytes fits (Err (Memory e)) = Unit {0}
+
+-- what is said in its place; nothing where there was no memory
+abbrev pub instead : Unanswered → Option (List ℕ)
+instead Unreadable = Some (codes "?")
+instead NoRack = Some (codes "no rack")
+instead (Memory e) = None

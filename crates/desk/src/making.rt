@@ -49,16 +49,10 @@ impl FromStr for Setup {
 fn put(desk: &mut Desk, processors: usize, setup: Setup) -> Result<(), MakeRefusal>
     ensures { Puts processors setup result desk.new }
 {
-    match Rack::make(processors, setup.judge, setup.policy) {
-        Ok(rack) => {
-            *desk = Some(rack);
-            Ok(())
-        }
-        Err(blank) => {
-            *desk = None;
-            Err(blank.refusal())
-        }
-    }
+    *desk = None;
+    let rack = Rack::make(processors, setup.judge, setup.policy).map_err(|blank| blank.refusal())?;
+    *desk = Some(rack);
+    Ok(())
 }
 
 /// The answer to `make`: `ok`, or the refusal.

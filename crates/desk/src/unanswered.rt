@@ -1,10 +1,10 @@
 // Why a call has no answer of its own.
-ghost use Rattle.std.specs.Prelude.{◌≡◌};
-ghost use Rattle.desk.specs.Unanswered.{unread};
+ghost use Rattle.std.specs.Prelude.{◌≡◌, Some, IfOk};
+ghost use Rattle.desk.specs.Unanswered.{unread, instead};
 ghost use Rattle.desk.specs.declared.unanswered.Unanswered.TheVariants.{Memory};
 
 use script::NoCall;
-use std::alloc::AllocError;
+use std::alloc::{AllocError, Global};
 
 /// Why a call has no answer of its own.
 #[derive(Clone, Copy)]
@@ -15,6 +15,19 @@ pub(crate) enum Unanswered {
     NoRack,
     /// There was no memory.
     Memory(AllocError),
+}
+
+impl Unanswered {
+    // What is said in the place of an answer.
+    pub(crate) fn told(self, alloc: Global) -> Result<Vec<u8>, AllocError>
+        ensures { IfOk result (λ v. instead self ≡ Some v.items) }
+    {
+        match self {
+            Unanswered::Unreadable => b"?".to_vec(alloc),
+            Unanswered::NoRack => b"no rack".to_vec(alloc),
+            Unanswered::Memory(e) => Err(e),
+        }
+    }
 }
 
 impl From<NoCall> for Unanswered {
