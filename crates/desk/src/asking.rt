@@ -31,6 +31,7 @@ fn admission_from(alloc: Global, text: &str) -> Result<Admission, NoCall>
     match all.as_slice() {
         [number, work, period, length] if *length <= 64 => Ok(Admission {
             task: Task::of(*number, *work, *period),
+            // `as`: a usize has no `From<u32>`.
             length: *length as usize,
         }),
         _ => Err(NoCall::Unreadable),

@@ -1,11 +1,11 @@
 // `make M points|step F|B|W`
-ghost use Rattle.std.specs.Prelude.{◌≡◌, ◌≢◌, Some, string_bytes, MatchResult};
-ghost use Rattle.script.specs.NoCalls.{Reads};
+ghost use Rattle.std.specs.Prelude.{◌≡◌, Some, string_bytes};
+ghost use Rattle.script.specs.NoCalls.{Named, Reads};
 ghost use Rattle.desk.specs.Making.{setup_name, ReadsMake, Puts, MakeTold, made_text, one_number};
 ghost use Rattle.desk.specs.Unanswered.{Says};
-ghost use Rattle.script.specs.declared.no_call.NoCall.TheVariants.{Unreadable};
 
 use crate::desk::Desk;
+use crate::texts::RefusalText;
 use crate::unanswered::Unanswered;
 use judges::AnyJudge;
 use preferences::Policy;
@@ -13,7 +13,7 @@ use rack::Rack;
 use script::{NoCall, numbers, split_word};
 use seating::MakeRefusal;
 use std::alloc::Global;
-use std::fmt;
+use std::fmt::{self, Display};
 use std::str::FromStr;
 
 /// What a rack is made with.
@@ -29,7 +29,7 @@ impl FromStr for Setup {
 
     type Err = NoCall;
 
-    ghost from_str_gives = { λ text r. MatchResult r (λ s. text ≡ setup_name s.judge s.policy) (λ e. (e ≡ Unreadable) × ((s : Setup) → text ≢ setup_name s.judge s.policy)) };
+    ghost from_str_gives = { λ text r. Named (λ (s : Setup). setup_name s.judge s.policy) text r };
 
     fn from_str(text: &str) -> Result<Setup, NoCall> {
         let (judge, policy) = match text {
@@ -65,10 +65,7 @@ impl fmt::Display for MakeText {
     fn fmt<W: fmt::Write>(&self, f: &mut fmt::Formatter<W>) -> fmt::Result {
         match self.0 {
             Ok(()) => write!(f, "ok"),
-            Err(refusal) => {
-                let number = refusal.number();
-                write!(f, "R{number}")
-            }
+            Err(refusal) => RefusalText(refusal.into()).fmt(f),
         }
     }
 }
@@ -99,6 +96,7 @@ pub(crate) fn make(alloc: Global, desk: &mut Desk, rest: &str) -> Result<String,
     ensures { Says string_bytes (λ text. MakeTold desk.old rest.now text desk.new) result }
 {
     let (processors, setup) = make_from(alloc, rest)?;
+    // `as`: a usize has no `From<u32>`.
     let answer = put(desk, processors as usize, setup);
     Ok(MakeText(answer).to_string(alloc)?)
 }

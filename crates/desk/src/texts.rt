@@ -1,11 +1,24 @@
 // The rack's answers to admissions and withdrawals, in words.
 ghost use Rattle.std.specs.Prelude.{◌≡◌, Some};
-ghost use Rattle.desk.specs.Texts.{admit_text, withdraw_text};
+ghost use Rattle.desk.specs.Texts.{refused_text, admit_text, withdraw_text};
 
 use crate::sheets::shown_at;
-use seating::{AdmitRefusal, WithdrawRefusal};
-use std::fmt;
+use seating::{AdmitRefusal, Refused, WithdrawRefusal};
+use std::fmt::{self, Display};
 use tasks::{Ticks, Units};
+
+/// A refusal: `R` and its number.
+#[derive(Clone, Copy)]
+pub(crate) struct RefusalText(pub(crate) Refused);
+
+impl fmt::Display for RefusalText {
+    ghost output = { λ r. Some (refused_text r.0) };
+
+    fn fmt<W: fmt::Write>(&self, f: &mut fmt::Formatter<W>) -> fmt::Result {
+        let number = self.0.number();
+        write!(f, "R{number}")
+    }
+}
 
 /// The answer to an admission: the processor and the instant, or the refusal and what it shows of the sheet.
 #[derive(Clone, Copy)]
@@ -19,14 +32,11 @@ impl fmt::Display for AdmitText<'_> {
 
     fn fmt<W: fmt::Write>(&self, f: &mut fmt::Formatter<W>) -> fmt::Result {
         match self.answer {
-            Ok((processor, instant)) => {
-                let ticks = instant.0;
-                write!(f, "ok {processor} {ticks}")
-            }
+            Ok((processor, instant)) => write!(f, "ok {processor} {instant}"),
             Err(refusal) => {
-                let number = refusal.number();
+                let text = RefusalText(refusal.into());
                 let entries = shown_at(refusal, self.sheet);
-                write!(f, "R{number}{entries}")
+                write!(f, "{text}{entries}")
             }
         }
     }
@@ -41,15 +51,8 @@ impl fmt::Display for WithdrawText {
 
     fn fmt<W: fmt::Write>(&self, f: &mut fmt::Formatter<W>) -> fmt::Result {
         match self.0 {
-            Ok((processor, work, period)) => {
-                let units = work.0;
-                let ticks = period.0;
-                write!(f, "ok {processor} {units} {ticks}")
-            }
-            Err(refusal) => {
-                let number = refusal.number();
-                write!(f, "R{number}")
-            }
+            Ok((processor, work, period)) => write!(f, "ok {processor} {work} {period}"),
+            Err(refusal) => RefusalText(refusal.into()).fmt(f),
         }
     }
 }

@@ -1,7 +1,7 @@
 // The words that the desk's calls begin with.
-ghost use Rattle.std.specs.Prelude.{◌≡◌, ℕ, List, ◌∷◌, ◌++◌, MatchOption, MatchResult, ◌≢◌};
+ghost use Rattle.std.specs.Prelude.{◌≡◌, ℕ, List, ◌∷◌, ◌++◌, MatchOption, ◌≢◌};
 ghost use Rattle.desk.specs.Names.{name_of};
-ghost use Rattle.script.specs.declared.no_call.NoCall.TheVariants.{Unreadable};
+ghost use Rattle.script.specs.NoCalls.{Named};
 
 use script::{NoCall, split_word};
 use std::str::FromStr;
@@ -21,11 +21,9 @@ pub enum Word {
 
 /// The word that stands in the text; no call where there is none.
 impl FromStr for Word {
-    ghost use Rattle.desk.specs.declared.words.Word.{Word};
-
     type Err = NoCall;
 
-    ghost from_str_gives = { λ text r. MatchResult r (λ w. text ≡ name_of w) (λ e. (e ≡ Unreadable) × ((w : Word) → text ≢ name_of w)) };
+    ghost from_str_gives = { λ text r. Named name_of text r };
 
     fn from_str(text: &str) -> Result<Word, NoCall> {
         match text {
