@@ -59,11 +59,7 @@ fn player_lines(alloc: Global, input: &[u8]) -> Result<Vec<u8>, AllocError>
 fn framed(alloc: Global, lines: &[u8]) -> Result<Vec<u8>, AllocError>
     ensures { IfOk result (λ v. v.items ≡ framed lines.now) }
 {
-    let mut text = Vec::new(alloc);
-    text.extend_from_slice(b"\n")?;
-    text.extend_from_slice(lines)?;
-    text.extend_from_slice(b"end")?;
-    Ok(text)
+    [b"\n".as_slice(), lines, b"end".as_slice()].concat(alloc)
 }
 
 /// The player's lines for the bytes that `rest` writes in hexadecimal; no call where it writes none.

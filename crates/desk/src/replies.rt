@@ -51,11 +51,7 @@ fn told(alloc: Global, desk: &mut Desk, word: Word, rest: &str) -> Result<Vec<u8
 fn answered(alloc: Global, line: &str, text: &[u8]) -> Result<Vec<u8>, AllocError>
     ensures { IfOk result (λ v. v.items ≡ line.now ++ (codes " -> " ++ text.now)) }
 {
-    let mut back = Vec::new(alloc);
-    back.extend_from_slice(line.as_bytes())?;
-    back.extend_from_slice(b" -> ")?;
-    back.extend_from_slice(text)?;
-    Ok(back)
+    [line.as_bytes(), b" -> ".as_slice(), text].concat(alloc)
 }
 
 /// What is written back for a line: a call of the desk is answered on the desk, any other line as a script's.

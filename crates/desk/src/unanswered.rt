@@ -1,7 +1,8 @@
 // Why a call has no answer of its own.
 ghost use Rattle.std.specs.Prelude.{◌≡◌, Some, IfOk};
-ghost use Rattle.desk.specs.Unanswered.{unread, instead};
-ghost use Rattle.desk.specs.declared.unanswered.Unanswered.TheVariants.{Memory};
+ghost use Rattle.script.specs.declared.no_call.NoCall.TheVariants as call;
+ghost use Rattle.desk.specs.Unanswered.{instead};
+ghost use Rattle.desk.specs.declared.unanswered.Unanswered.TheVariants as of;
 
 use script::NoCall;
 use std::alloc::{AllocError, Global};
@@ -9,12 +10,10 @@ use std::alloc::{AllocError, Global};
 /// Why a call has no answer of its own.
 #[derive(Clone, Copy)]
 pub(crate) enum Unanswered {
-    /// What stands behind the word is no call.
-    Unreadable,
+    /// What stands behind the word is no call, or there was no memory to read or to answer it.
+    NoCall(NoCall),
     /// There is no rack on the desk.
     NoRack,
-    /// There was no memory.
-    Memory(AllocError),
 }
 
 impl Unanswered {
@@ -23,28 +22,25 @@ impl Unanswered {
         ensures { IfOk result (λ v. instead self ≡ Some v.items) }
     {
         match self {
-            Unanswered::Unreadable => b"?".to_vec(alloc),
+            Unanswered::NoCall(NoCall::Unreadable) => b"?".to_vec(alloc),
+            Unanswered::NoCall(NoCall::Memory(e)) => Err(e),
             Unanswered::NoRack => b"no rack".to_vec(alloc),
-            Unanswered::Memory(e) => Err(e),
         }
     }
 }
 
 impl From<NoCall> for Unanswered {
-    ghost from_gives = { λ e r. r ≡ unread e };
+    ghost from_gives = { λ e r. r ≡ of.NoCall e };
 
     fn from(e: NoCall) -> Unanswered {
-        match e {
-            NoCall::Unreadable => Unanswered::Unreadable,
-            NoCall::Memory(e) => Unanswered::Memory(e),
-        }
+        Unanswered::NoCall(e)
     }
 }
 
 impl From<AllocError> for Unanswered {
-    ghost from_gives = { λ e r. r ≡ Memory e };
+    ghost from_gives = { λ e r. r ≡ of.NoCall (call.Memory e) };
 
     fn from(e: AllocError) -> Unanswered {
-        Unanswered::Memory(e)
+        Unanswered::NoCall(e.into())
     }
 }
