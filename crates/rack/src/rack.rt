@@ -38,15 +38,15 @@ fn may_have(processors: usize) -> bool
 }
 
 // So many processors with all seats free.
-fn free(processors: usize) -> ArrayVec<Processor, 16>
-    requires { processors ≤ 16 }
-    ensures { result.items ≡ replicate processors [] }
+fn free_processors(count: usize) -> ArrayVec<Processor, 16>
+    requires { count ≤ 16 }
+    ensures { result.items ≡ replicate count [] }
 {
-    let mut free = ArrayVec::new();
-    for _ in 0..processors {
-        free.push(Processor::default());
+    let mut processors = ArrayVec::new();
+    for _ in 0..count {
+        processors.push(Processor::default());
     }
-    free
+    processors
 }
 
 impl<J: Judge, P: Preference> Rack<J, P> {
@@ -64,7 +64,7 @@ impl<J: Judge, P: Preference> Rack<J, P> {
             });
         }
         Ok(Rack {
-            processors: free(processors),
+            processors: free_processors(processors),
             judge,
             preference,
         })
