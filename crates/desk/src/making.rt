@@ -32,6 +32,7 @@ impl FromStr for Setup {
     ghost from_str_gives = { λ text r. Named (λ (s : Setup). setup_name s.judge s.policy) text r };
 
     fn from_str(text: &str) -> Result<Setup, NoCall> {
+        // Six texts as they stand: parted at the space, the judge's name and the policy's letter would be two more readers.
         let (judge, policy) = match text {
             "points F" => (AnyJudge::Points, Policy::First),
             "points B" => (AnyJudge::Points, Policy::Best),

@@ -25,6 +25,7 @@ fn record_lines(
     let mut sheet = [0u32; 16];
     let mut out = [0u8; 64];
     let mut text = Vec::new(alloc);
+    // `as` cuts nothing, for there are fewer than 65,536 records. Tried zipped with `0u32..`: the proof did not close.
     for (i, record) in records.iter().enumerate() {
         let n = play_record(rack, *record, i as u32, &mut sheet, &mut out);
         text.extend_from_slice(&out[..n])?;

@@ -26,7 +26,7 @@ impl fmt::Display for SeatText {
     }
 }
 
-/// Seats, each behind a space.
+/// Seats, each behind a space. Apart from the entries of a sheet: those show themselves, a seat does by its text.
 #[derive(Clone, Copy)]
 struct RowText<'a>(&'a [Seat]);
 
