@@ -12,7 +12,7 @@ use Rattle.judges.specs.declared.any.AnyJudge.TheVariants as judges
 use Rattle.judges.specs.Kinds.{meaning_of}
 use Rattle.script.specs.declared.no_call.NoCall.{NoCall}
 use Rattle.script.specs.declared.no_call.NoCall.TheVariants.{Unreadable, Memory}
-use Rattle.desk.specs.Texts.{refused_text}
+use Rattle.seating.specs.Refusals.{refused_text}
 use Rattle.desk.specs.Desk.{RackSeen, DeskSeen}
 use Rattle.desk.specs.declared.making.Setup.{Setup}
 

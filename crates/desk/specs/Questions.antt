@@ -8,7 +8,7 @@ use Rattle.seating.specs.declared.refused.Refused.TheVariants.{Asking}
 use Rattle.book.specs.Book.{finds, loads, lists}
 use Rattle.rack.specs.Steps.{Step}
 use Rattle.judges.specs.Kinds.{meaning_of}
-use Rattle.desk.specs.Texts.{refused_text}
+use Rattle.seating.specs.Refusals.{refused_text}
 use Rattle.desk.specs.Desk.{RackSeen, DeskSeen}
 
 -- `NUMBER C T INSTANT`

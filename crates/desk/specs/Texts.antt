@@ -6,13 +6,8 @@ use Rattle.tasks.specs.declared.units.Units.{Units}
 use Rattle.seating.specs.declared.refusal.AdmitRefusal.{AdmitRefusal}
 use Rattle.seating.specs.declared.refusal.AdmitRefusal.TheVariants as admits
 use Rattle.seating.specs.declared.refusal.WithdrawRefusal.{WithdrawRefusal}
-use Rattle.seating.specs.declared.refused.Refused.{Refused}
 use Rattle.seating.specs.declared.refused.Refused.TheVariants.{Admitting, Withdrawing}
-use Rattle.seating.specs.Refusals.{number_of}
-
--- `R` and the number
-abbrev pub refused_text : Refused → List ℕ
-refused_text refusal = codes "R" ++ decimal (number_of refusal)
+use Rattle.seating.specs.Refusals.{refused_text}
 
 -- each entry behind a space
 abbrev pub entries_text : List ℕ → List ℕ

@@ -69,7 +69,7 @@ fn admit_on(
     text.to_string(alloc)
 }
 
-// Admits the task that `rest` asks for.
+// Admits the task that `rest` asks for. Three lines, as at the questions.
 pub(crate) fn admit(alloc: Global, desk: &mut Desk, rest: &str) -> Result<String, Unanswered>
     ensures { Says string_bytes (λ text. AdmitAnswer desk.old (admission_of rest.now) text desk.new) result }
 {

@@ -5,13 +5,12 @@ ghost use Rattle.desk.specs.Making.{setup_name, ReadsMake, Puts, MakeTold, made_
 ghost use Rattle.desk.specs.Unanswered.{Says};
 
 use crate::desk::Desk;
-use crate::texts::RefusalText;
 use crate::unanswered::Unanswered;
 use judges::AnyJudge;
 use preferences::Policy;
 use rack::Rack;
 use script::{NoCall, numbers, split_word};
-use seating::MakeRefusal;
+use seating::{MakeRefusal, Refused};
 use std::alloc::Global;
 use std::fmt::{self, Display};
 use std::str::FromStr;
@@ -66,7 +65,7 @@ impl fmt::Display for MakeText {
     fn fmt<W: fmt::Write>(&self, f: &mut fmt::Formatter<W>) -> fmt::Result {
         match self.0 {
             Ok(()) => write!(f, "ok"),
-            Err(refusal) => RefusalText(refusal.into()).fmt(f),
+            Err(refusal) => Refused::from(refusal).fmt(f),
         }
     }
 }

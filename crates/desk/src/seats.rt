@@ -3,8 +3,7 @@ ghost use Rattle.std.specs.Prelude.{◌≡◌, Some};
 ghost use Rattle.rack.specs.Steps.{shown};
 ghost use Rattle.desk.specs.Questions.{seat_text, find_text, load_text, row_text, seats_text};
 
-use crate::texts::RefusalText;
-use seating::{QuestionRefusal, Seat};
+use seating::{QuestionRefusal, Refused, Seat};
 use std::fmt::{self, Display};
 use tasks::Task;
 
@@ -70,7 +69,7 @@ impl fmt::Display for LoadText {
     fn fmt<W: fmt::Write>(&self, f: &mut fmt::Formatter<W>) -> fmt::Result {
         match self.0 {
             Ok(load) => write!(f, "ok {load}"),
-            Err(refusal) => RefusalText(refusal.into()).fmt(f),
+            Err(refusal) => Refused::from(refusal).fmt(f),
         }
     }
 }
@@ -89,7 +88,7 @@ impl fmt::Display for SeatsText<'_> {
                 let row = RowText(seats);
                 write!(f, "ok {count}{row}")
             }
-            Err(refusal) => RefusalText(refusal.into()).fmt(f),
+            Err(refusal) => Refused::from(refusal).fmt(f),
         }
     }
 }

@@ -1,24 +1,11 @@
 // The rack's answers to admissions and withdrawals, in words.
-ghost use Rattle.std.specs.Prelude.{◌≡◌, Some};
-ghost use Rattle.desk.specs.Texts.{refused_text, admit_text, withdraw_text};
+ghost use Rattle.std.specs.Prelude.{Some};
+ghost use Rattle.desk.specs.Texts.{admit_text, withdraw_text};
 
 use crate::sheets::shown_at;
 use seating::{AdmitRefusal, Refused, WithdrawRefusal};
 use std::fmt::{self, Display};
 use tasks::{Ticks, Units};
-
-/// A refusal: `R` and its number.
-#[derive(Clone, Copy)]
-pub(crate) struct RefusalText(pub(crate) Refused);
-
-impl fmt::Display for RefusalText {
-    ghost output = { λ r. Some (refused_text r.0) };
-
-    fn fmt<W: fmt::Write>(&self, f: &mut fmt::Formatter<W>) -> fmt::Result {
-        let number = self.0.number();
-        write!(f, "R{number}")
-    }
-}
 
 /// The answer to an admission: the processor and the instant, or the refusal and what it shows of the sheet.
 #[derive(Clone, Copy)]
@@ -34,7 +21,7 @@ impl fmt::Display for AdmitText<'_> {
         match self.answer {
             Ok((processor, instant)) => write!(f, "ok {processor} {instant}"),
             Err(refusal) => {
-                let text = RefusalText(refusal.into());
+                let text = Refused::from(refusal);
                 let entries = shown_at(refusal, self.sheet);
                 write!(f, "{text}{entries}")
             }
@@ -42,6 +29,7 @@ impl fmt::Display for AdmitText<'_> {
     }
 }
 
+// Each answer matches for itself, here and at the questions: one text for all would need a text type for each `ok` line, and say no more.
 /// The answer to a withdrawal: the processor, the work and the period, or the refusal.
 #[derive(Clone, Copy)]
 pub(crate) struct WithdrawText(pub(crate) Result<(usize, Units, Ticks), WithdrawRefusal>);
@@ -52,7 +40,7 @@ impl fmt::Display for WithdrawText {
     fn fmt<W: fmt::Write>(&self, f: &mut fmt::Formatter<W>) -> fmt::Result {
         match self.0 {
             Ok((processor, work, period)) => write!(f, "ok {processor} {work} {period}"),
-            Err(refusal) => RefusalText(refusal.into()).fmt(f),
+            Err(refusal) => Refused::from(refusal).fmt(f),
         }
     }
 }

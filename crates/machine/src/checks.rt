@@ -50,7 +50,8 @@ fn comes_in_time(release: &Release, last: Ticks, free: Ticks) -> bool
     last <= release.instant && free <= release.instant
 }
 
-// Whether the releases are lawful. A pass carries the last instant and when each of 33 places is free: a chain with both is no plainer.
+// Whether the releases are lawful. A pass carries the last instant and, in fixed memory, when each of 33 places is free: a chain with
+// both is no plainer.
 fn is_lawful(tasks: &[Task], horizon: Ticks, releases: &[Release]) -> bool
     requires few { length tasks.now ≤ 33 }
     requires limits { all_within tasks.now ≡ true }

@@ -9,9 +9,9 @@ use std::fmt;
 pub enum Refusal {
     /// There are more than 33 tasks, or one of them does not keep the limits.
     Tasks = 18,
-    /// It is past 2,000,000 ticks.
+    /// The horizon is past 2,000,000 ticks.
     Horizon = 19,
-    /// There are more than 65,536, or they are not lawful.
+    /// There are more than 65,536 releases, or they are not lawful.
     Releases = 20,
 }
 

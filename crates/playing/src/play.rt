@@ -32,6 +32,7 @@ pub fn play_record<J: Judge, P: Preference>(
             label,
             ..
         } => {
+            // in both arms, since the two answers are of other types
             let answer = rack.admit(Task::of(number, work, period), sheet);
             let outcome = carried(index, answer.map_err(Refused::from));
             write_line(out, admission_line(index, label, outcome))

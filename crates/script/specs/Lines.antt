@@ -2,7 +2,7 @@
 use Rattle.std.specs.Prelude.{ℕ, Bool, cond, ◌||◌, List, [], ◌++◌, length, Some, None, Ok, Err, codes, decimal, Option, ◌==◌, slice_index}
 use Rattle.std.specs.Option.{option_map}
 use Rattle.machine.specs.declared.state.Miss.{Miss}
-use Rattle.machine.specs.Refusals.{number_of}
+use Rattle.machine.specs.Refusals.{refusal_text}
 use Rattle.traces.specs.Texts.{number_text}
 use Rattle.traces.specs.Traces.{trace_text}
 use Rattle.script.specs.declared.answers.Answer.{Answer}
@@ -20,7 +20,7 @@ answer_text (Instants first second) = number_text (option_map (λ t. t.0) first)
 answer_text (Demand w) = number_text (option_map (λ u. u.0) w)
 answer_text (Share s) = number_text s
 answer_text (Run (Ok o)) = end_text o.miss o.busy.0
-answer_text (Run (Err refusal)) = codes "R" ++ decimal (number_of refusal)
+answer_text (Run (Err refusal)) = refusal_text refusal
 
 -- an empty line, or one that begins with `#`, is no call
 abbrev pub passed_over : List ℕ → Bool

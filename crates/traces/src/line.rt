@@ -50,7 +50,7 @@ impl fmt::Display for Doing {
     fn fmt<W: fmt::Write>(&self, f: &mut fmt::Formatter<W>) -> fmt::Result {
         match self.0 {
             State::Idle => write!(f, "-"),
-            State::Waiting { left, deadline } => { write!(f, "{left}@{deadline}") }
+            State::Waiting { left, deadline } => write!(f, "{left}@{deadline}"),
         }
     }
 }
