@@ -1,17 +1,13 @@
 -- One record more.
-use Rattle.std.proofs.Common.{◌≡◌, ℕ, ◌+◌, List, ◌++◌, map, get_or, take, IfOk, Ok, Err, vec_items, Result, Vec, sym, subst, add-one}
-use Rattle.std.specs.declared.alloc.Global.{Global}
+use Rattle.std.proofs.Common.{◌≡◌, ℕ, ◌+◌, List, ◌++◌, get_or, take, sym, subst, add-one}
 use Rattle.judges.specs.declared.points.Points.{Points}
 use Rattle.preferences.specs.declared.policy.Policy.{Policy}
 use Rattle.preferences.specs.Policies.{policy_before}
 use Rattle.rack.specs.Table.{Table}
-use Rattle.rackfile.specs.Records.{Seen, withdraws, seen_as}
-use Rattle.rackfile.specs.declared.record.Record.{Record}
-use Rattle.playing.specs.declared.opening.Play.{Play}
+use Rattle.rackfile.specs.Records.{Seen, withdraws}
 use Rattle.playing.specs.Playing.{Plays}
-use Rattle.playing.specs.Beginning.{Begins}
 use Rattle.judges.specs.Meanings.{least_good_point}
-use Rattle.desk.specs.Plays.{PlayedTo, AllPlayed, PlayedAs}
+use Rattle.desk.specs.Plays.{PlayedTo}
 
 pub one_more
     : (start : Table Points Policy) (records : List Seen) (n : ℕ) (q : Table Points Policy) (sheet₀ out₀ lines₀ : List ℕ) (long : ℕ) (one : Seen) (r : Table Points Policy) (sheet out lines : List ℕ)
@@ -28,10 +24,3 @@ one_more start records n q sheet₀ out₀ lines₀ long one r sheet out lines b
       subst (λ x. Plays (λ _. least_good_point) policy_before q x n sheet₀ out₀ long r sheet out) (sym e) plays,
       is,
     )
-
--- the lines of a file that was begun
-pub play_made
-    : {E : Type 0} (input : List ℕ) (play : Play) (rs : List Record) → rs ≡ vec_items play.records → Begins input (Ok play) → (t : Result (Vec ℕ Global) E)
-    → IfOk t (λ v. AllPlayed play.rack (map seen_as rs) (vec_items v)) → IfOk t (λ v. PlayedAs input (vec_items v))
-play_made input play rs e began (Ok v) h = (Ok play, began, subst (λ l. AllPlayed play.rack (map seen_as l) (vec_items v)) e h)
-play_made input play rs e began (Err y) h = tt

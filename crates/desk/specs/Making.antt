@@ -1,10 +1,9 @@
 -- `make`: a rack onto the desk.
-use Rattle.std.specs.Prelude.{◌≡◌, ℕ, cond, List, [], ◌∷◌, ◌++◌, length, option_and_then, Some, None, Ok, Err, codes, decimal, Option, Result, ◌==◌, slice_index}
+use Rattle.std.specs.Prelude.{◌≡◌, ℕ, cond, List, [], ◌∷◌, ◌++◌, length, option_and_then, Some, None, Ok, Err, codes, Option, Result, ◌==◌, slice_index}
 use Rattle.preferences.specs.declared.policy.Policy.{Policy}
 use Rattle.preferences.specs.Policies.{letter_of, policy_before}
 use Rattle.seating.specs.declared.refusal.MakeRefusal.{MakeRefusal}
 use Rattle.seating.specs.declared.refused.Refused.TheVariants.{Making}
-use Rattle.seating.specs.Refusals.{number_of}
 use Rattle.rack.specs.declared.blank.Blank.{Blank}
 use Rattle.rack.specs.Steps.{MakeStep}
 use Rattle.script.specs.Fields.{Unspaced, numbers_of}
@@ -13,6 +12,7 @@ use Rattle.judges.specs.declared.any.AnyJudge.TheVariants as judges
 use Rattle.judges.specs.Kinds.{meaning_of}
 use Rattle.script.specs.declared.no_call.NoCall.{NoCall}
 use Rattle.script.specs.declared.no_call.NoCall.TheVariants.{Unreadable, Memory}
+use Rattle.seating.specs.Refusals.{refused_text}
 use Rattle.desk.specs.Desk.{RackSeen, DeskSeen}
 use Rattle.desk.specs.declared.making.Setup.{Setup}
 
@@ -66,7 +66,7 @@ pub record Puts (processors : ℕ) (setup : Setup) (refusal : Result (Unit {0}) 
 -- `ok`, or the refusal
 abbrev pub made_text : Result (Unit {0}) MakeRefusal → List ℕ
 made_text (Ok done) = codes "ok"
-made_text (Err refusal) = codes "R" ++ decimal (number_of (Making refusal))
+made_text (Err refusal) = refused_text (Making refusal)
 
 pub record MakeAnswered (processors : ℕ) (setup : Setup) (text : List ℕ) (after : DeskSeen) : Type 0 where
   pub refusal : Result (Unit {0}) MakeRefusal

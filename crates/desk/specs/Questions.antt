@@ -5,10 +5,10 @@ use Rattle.preferences.specs.Policies.{policy_before}
 use Rattle.seating.specs.declared.seat.Seat.{Seat}
 use Rattle.seating.specs.declared.refusal.QuestionRefusal.{QuestionRefusal}
 use Rattle.seating.specs.declared.refused.Refused.TheVariants.{Asking}
-use Rattle.seating.specs.Refusals.{number_of}
 use Rattle.book.specs.Book.{finds, loads, lists}
 use Rattle.rack.specs.Steps.{Step}
 use Rattle.judges.specs.Kinds.{meaning_of}
+use Rattle.seating.specs.Refusals.{refused_text}
 use Rattle.desk.specs.Desk.{RackSeen, DeskSeen}
 
 -- `NUMBER C T INSTANT`
@@ -20,13 +20,10 @@ abbrev pub find_text : Option (Seat × ℕ) → List ℕ
 find_text None = codes "none"
 find_text (Some a) = codes "seat " ++ (seat_text a.0 ++ (codes " " ++ decimal a.1))
 
-abbrev pub refused_text : QuestionRefusal → List ℕ
-refused_text e = codes "R" ++ decimal (number_of (Asking e))
-
 -- `ok LOAD`
 abbrev pub load_text : Result ℕ QuestionRefusal → List ℕ
 load_text (Ok l) = codes "ok " ++ decimal l
-load_text (Err e) = refused_text e
+load_text (Err e) = refused_text (Asking e)
 
 -- each seat behind a space
 abbrev pub row_text : List Seat → List ℕ
@@ -35,7 +32,7 @@ row_text seats = flat_map (λ s. codes " " ++ seat_text s) seats
 -- `ok N` and then the seats
 abbrev pub seats_text : Result (List Seat) QuestionRefusal → List ℕ
 seats_text (Ok ss) = codes "ok " ++ (decimal (length ss) ++ row_text ss)
-seats_text (Err e) = refused_text e
+seats_text (Err e) = refused_text (Asking e)
 
 -- each is that step of the rack, which stays as it is, and its answer in words
 pub record Found (r : RackSeen) (number : ℕ) (text : List ℕ) : Type 0 where

@@ -7,7 +7,7 @@ use Rattle.seating.specs.declared.refusal.AdmitRefusal.{AdmitRefusal}
 use Rattle.seating.specs.declared.refusal.AdmitRefusal.TheVariants as admits
 use Rattle.seating.specs.declared.refusal.WithdrawRefusal.{WithdrawRefusal}
 use Rattle.seating.specs.declared.refused.Refused.TheVariants.{Admitting, Withdrawing}
-use Rattle.seating.specs.Refusals.{number_of}
+use Rattle.seating.specs.Refusals.{refused_text}
 
 -- each entry behind a space
 abbrev pub entries_text : List ℕ → List ℕ
@@ -24,7 +24,7 @@ sheet_text admits.AllFull sheet = []
 sheet_text admits.NoTaker sheet = entries_text sheet
 
 abbrev pub turned_text : AdmitRefusal → List ℕ → List ℕ
-turned_text e sheet = codes "R" ++ (decimal (number_of (Admitting e)) ++ sheet_text e sheet)
+turned_text e sheet = refused_text (Admitting e) ++ sheet_text e sheet
 
 -- `ok P INSTANT`
 abbrev pub granted_text : ℕ → ℕ → List ℕ
@@ -40,4 +40,4 @@ left_text processor work period = codes "ok " ++ (decimal processor ++ (codes " 
 
 abbrev pub withdraw_text : Result (ℕ × Units × Ticks) WithdrawRefusal → List ℕ
 withdraw_text (Ok a) = left_text a.0 a.1.0 a.2.0
-withdraw_text (Err e) = codes "R" ++ decimal (number_of (Withdrawing e))
+withdraw_text (Err e) = refused_text (Withdrawing e)

@@ -31,6 +31,7 @@ fn admission_from(alloc: Global, text: &str) -> Result<Admission, NoCall>
     match all.as_slice() {
         [number, work, period, length] if *length <= 64 => Ok(Admission {
             task: Task::of(*number, *work, *period),
+            // `as`: a usize has no `From<u32>`.
             length: *length as usize,
         }),
         _ => Err(NoCall::Unreadable),
@@ -68,7 +69,7 @@ fn admit_on(
     text.to_string(alloc)
 }
 
-// Admits the task that `rest` asks for.
+// Admits the task that `rest` asks for. Three lines, as at the questions.
 pub(crate) fn admit(alloc: Global, desk: &mut Desk, rest: &str) -> Result<String, Unanswered>
     ensures { Says string_bytes (λ text. AdmitAnswer desk.old (admission_of rest.now) text desk.new) result }
 {

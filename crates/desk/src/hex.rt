@@ -4,9 +4,9 @@ ghost use Rattle.script.specs.NoCalls.{Reads};
 ghost use Rattle.desk.specs.Hex.{digit_of, pair_of, bytes_of};
 
 use script::NoCall;
-use std::alloc::{AllocError, Global};
+use std::alloc::Global;
 
-// What a digit is worth.
+// What a digit is worth: three ranges, and no `to_digit`, whose answer has 32 bits.
 fn digit(b: u8) -> Option<u8>
     ensures is { result ≡ digit_of b }
     ensures small { MatchOption result Unit (λ d. d < 16) }
@@ -34,7 +34,7 @@ pub fn bytes_from(alloc: Global, text: &[u8]) -> Result<Vec<u8>, NoCall>
     let mut left = text;
     while let [high, low, rest @ ..] = left {
         let b = pair(*high, *low).ok_or(NoCall::Unreadable)?;
-        all.push(b).map_err(AllocError::from)?;
+        all.push(b)?;
         left = rest;
     }
     if left.is_empty() {

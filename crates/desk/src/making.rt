@@ -1,9 +1,8 @@
 // `make M points|step F|B|W`
-ghost use Rattle.std.specs.Prelude.{◌≡◌, ◌≢◌, Some, string_bytes, MatchResult};
-ghost use Rattle.script.specs.NoCalls.{Reads};
+ghost use Rattle.std.specs.Prelude.{◌≡◌, Some, string_bytes};
+ghost use Rattle.script.specs.NoCalls.{Named, Reads};
 ghost use Rattle.desk.specs.Making.{setup_name, ReadsMake, Puts, MakeTold, made_text, one_number};
 ghost use Rattle.desk.specs.Unanswered.{Says};
-ghost use Rattle.script.specs.declared.no_call.NoCall.TheVariants.{Unreadable};
 
 use crate::desk::Desk;
 use crate::unanswered::Unanswered;
@@ -11,9 +10,9 @@ use judges::AnyJudge;
 use preferences::Policy;
 use rack::Rack;
 use script::{NoCall, numbers, split_word};
-use seating::MakeRefusal;
+use seating::{MakeRefusal, Refused};
 use std::alloc::Global;
-use std::fmt;
+use std::fmt::{self, Display};
 use std::str::FromStr;
 
 /// What a rack is made with.
@@ -25,11 +24,14 @@ pub struct Setup {
 
 /// `points F` and so on.
 impl FromStr for Setup {
+    ghost use Rattle.desk.specs.declared.making.Setup.{Setup};
+
     type Err = NoCall;
 
-    fn from_str(text: &str) -> Result<Setup, NoCall>
-        ensures { MatchResult result (λ s. text.now ≡ setup_name s.judge s.policy) (λ e. (e ≡ Unreadable) × ((s : Setup) → text.now ≢ setup_name s.judge s.policy)) }
-    {
+    ghost from_str_gives = { λ text r. Named (λ (s : Setup). setup_name s.judge s.policy) text r };
+
+    fn from_str(text: &str) -> Result<Setup, NoCall> {
+        // Six texts as they stand: parted at the space, the judge's name and the policy's letter would be two more readers.
         let (judge, policy) = match text {
             "points F" => (AnyJudge::Points, Policy::First),
             "points B" => (AnyJudge::Points, Policy::Best),
@@ -47,16 +49,10 @@ impl FromStr for Setup {
 fn put(desk: &mut Desk, processors: usize, setup: Setup) -> Result<(), MakeRefusal>
     ensures { Puts processors setup result desk.new }
 {
-    match Rack::make(processors, setup.judge, setup.policy) {
-        Ok(rack) => {
-            *desk = Some(rack);
-            Ok(())
-        }
-        Err(blank) => {
-            *desk = None;
-            Err(blank.refusal())
-        }
-    }
+    *desk = None;
+    let rack = Rack::make(processors, setup.judge, setup.policy).map_err(|blank| blank.refusal())?;
+    *desk = Some(rack);
+    Ok(())
 }
 
 /// The answer to `make`: `ok`, or the refusal.
@@ -69,10 +65,7 @@ impl fmt::Display for MakeText {
     fn fmt<W: fmt::Write>(&self, f: &mut fmt::Formatter<W>) -> fmt::Result {
         match self.0 {
             Ok(()) => write!(f, "ok"),
-            Err(refusal) => {
-                let number = refusal.number();
-                write!(f, "R{number}")
-            }
+            Err(refusal) => Refused::from(refusal).fmt(f),
         }
     }
 }
@@ -103,6 +96,7 @@ pub(crate) fn make(alloc: Global, desk: &mut Desk, rest: &str) -> Result<String,
     ensures { Says string_bytes (λ text. MakeTold desk.old rest.now text desk.new) result }
 {
     let (processors, setup) = make_from(alloc, rest)?;
+    // `as`: a usize has no `From<u32>`.
     let answer = put(desk, processors as usize, setup);
     Ok(MakeText(answer).to_string(alloc)?)
 }

@@ -25,6 +25,7 @@ fn record_lines(
     let mut sheet = [0u32; 16];
     let mut out = [0u8; 64];
     let mut text = Vec::new(alloc);
+    // `as` cuts nothing, for there are fewer than 65,536 records. Tried zipped with `0u32..`: the proof did not close.
     for (i, record) in records.iter().enumerate() {
         let n = play_record(rack, *record, i as u32, &mut sheet, &mut out);
         text.extend_from_slice(&out[..n])?;
@@ -59,11 +60,7 @@ fn player_lines(alloc: Global, input: &[u8]) -> Result<Vec<u8>, AllocError>
 fn framed(alloc: Global, lines: &[u8]) -> Result<Vec<u8>, AllocError>
     ensures { IfOk result (λ v. v.items ≡ framed lines.now) }
 {
-    let mut text = Vec::new(alloc);
-    text.extend_from_slice(b"\n")?;
-    text.extend_from_slice(lines)?;
-    text.extend_from_slice(b"end")?;
-    Ok(text)
+    [b"\n".as_slice(), lines, b"end".as_slice()].concat(alloc)
 }
 
 /// The player's lines for the bytes that `rest` writes in hexadecimal; no call where it writes none.

@@ -1,4 +1,4 @@
-// `find NUMBER`, `load P` and `seats P`
+// `find NUMBER`, `load P` and `seats P`. Three lines each: one function for the three would take the question as a closure, with its answer's type and text. `as`: a usize has no `From<u32>`.
 ghost use Rattle.std.specs.Prelude.{◌≡◌, string_bytes};
 ghost use Rattle.desk.specs.Making.{one_number};
 ghost use Rattle.desk.specs.Questions.{FindOf, LoadOf, SeatsOf, Answer};
@@ -23,16 +23,16 @@ pub(crate) fn find(alloc: Global, desk: &Desk, rest: &str) -> Result<String, Una
 pub(crate) fn load(alloc: Global, desk: &Desk, rest: &str) -> Result<String, Unanswered>
     ensures { Says string_bytes (Answer (LoadOf desk.now) (one_number rest.now)) result }
 {
-    let p = one_number(alloc, rest)?;
+    let processor = one_number(alloc, rest)?;
     let rack = desk.as_ref().ok_or(Unanswered::NoRack)?;
-    Ok(LoadText(rack.load(p as usize)).to_string(alloc)?)
+    Ok(LoadText(rack.load(processor as usize)).to_string(alloc)?)
 }
 
 // Its seats.
 pub(crate) fn seats(alloc: Global, desk: &Desk, rest: &str) -> Result<String, Unanswered>
     ensures { Says string_bytes (Answer (SeatsOf desk.now) (one_number rest.now)) result }
 {
-    let p = one_number(alloc, rest)?;
+    let processor = one_number(alloc, rest)?;
     let rack = desk.as_ref().ok_or(Unanswered::NoRack)?;
-    Ok(SeatsText(rack.seats(p as usize)).to_string(alloc)?)
+    Ok(SeatsText(rack.seats(processor as usize)).to_string(alloc)?)
 }

@@ -27,39 +27,31 @@ fn read(alloc: Global, rest: &str) -> Result<String, Unanswered>
 fn answer(alloc: Global, desk: &mut Desk, word: Word, rest: &str) -> Result<Vec<u8>, Unanswered>
     ensures { Says vec_items (λ text. Told word rest.now desk.old text desk.new) result }
 {
-    match word {
-        Word::Read => Ok(read(alloc, rest)?.into_bytes()),
-        Word::Play => Ok(play_told(alloc, rest.as_bytes())?),
-        Word::Make => Ok(make(alloc, desk, rest)?.into_bytes()),
-        Word::Admit => Ok(admit(alloc, desk, rest)?.into_bytes()),
-        Word::Withdraw => Ok(withdraw(alloc, desk, rest)?.into_bytes()),
-        Word::Find => Ok(find(alloc, desk, rest)?.into_bytes()),
-        Word::Load => Ok(load(alloc, desk, rest)?.into_bytes()),
-        Word::Seats => Ok(seats(alloc, desk, rest)?.into_bytes()),
-    }
+    let text = match word {
+        Word::Read => read(alloc, rest)?,
+        Word::Play => return Ok(play_told(alloc, rest.as_bytes())?),
+        Word::Make => make(alloc, desk, rest)?,
+        Word::Admit => admit(alloc, desk, rest)?,
+        Word::Withdraw => withdraw(alloc, desk, rest)?,
+        Word::Find => find(alloc, desk, rest)?,
+        Word::Load => load(alloc, desk, rest)?,
+        Word::Seats => seats(alloc, desk, rest)?,
+    };
+    Ok(text.into_bytes())
 }
 
 // What a call is told: `?` where it is none, `no rack` where it asks for one and there is none.
 fn told(alloc: Global, desk: &mut Desk, word: Word, rest: &str) -> Result<Vec<u8>, AllocError>
     ensures { IfOk result (λ v. Told word rest.now desk.old v.items desk.new) }
 {
-    match answer(alloc, desk, word, rest) {
-        Ok(text) => Ok(text),
-        Err(Unanswered::Unreadable) => b"?".to_vec(alloc),
-        Err(Unanswered::NoRack) => b"no rack".to_vec(alloc),
-        Err(Unanswered::Memory(e)) => Err(e),
-    }
+    answer(alloc, desk, word, rest).or_else(|why| why.told(alloc))
 }
 
 // A line with an answer behind it.
 fn answered(alloc: Global, line: &str, text: &[u8]) -> Result<Vec<u8>, AllocError>
     ensures { IfOk result (λ v. v.items ≡ line.now ++ (codes " -> " ++ text.now)) }
 {
-    let mut back = Vec::new(alloc);
-    back.extend_from_slice(line.as_bytes())?;
-    back.extend_from_slice(b" -> ")?;
-    back.extend_from_slice(text)?;
-    Ok(back)
+    [line.as_bytes(), b" -> ".as_slice(), text].concat(alloc)
 }
 
 /// What is written back for a line: a call of the desk is answered on the desk, any other line as a script's.

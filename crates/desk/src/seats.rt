@@ -3,8 +3,9 @@ ghost use Rattle.std.specs.Prelude.{◌≡◌, Some};
 ghost use Rattle.rack.specs.Steps.{shown};
 ghost use Rattle.desk.specs.Questions.{seat_text, find_text, load_text, row_text, seats_text};
 
-use seating::{QuestionRefusal, Seat};
-use std::fmt;
+use seating::{QuestionRefusal, Refused, Seat};
+use std::fmt::{self, Display};
+use tasks::Task;
 
 /// A seat: `NUMBER C T INSTANT`.
 #[derive(Clone, Copy)]
@@ -15,15 +16,16 @@ impl fmt::Display for SeatText {
 
     fn fmt<W: fmt::Write>(&self, f: &mut fmt::Formatter<W>) -> fmt::Result {
         let Seat { task, instant } = self.0;
-        let number = task.number;
-        let work = task.work.0;
-        let period = task.period.0;
-        let ticks = instant.0;
-        write!(f, "{number} {work} {period} {ticks}")
+        let Task {
+            number,
+            work,
+            period,
+        } = task;
+        write!(f, "{number} {work} {period} {instant}")
     }
 }
 
-/// Seats, each behind a space.
+/// Seats, each behind a space. Apart from the entries of a sheet: those show themselves, a seat does by its text.
 #[derive(Clone, Copy)]
 struct RowText<'a>(&'a [Seat]);
 
@@ -67,10 +69,7 @@ impl fmt::Display for LoadText {
     fn fmt<W: fmt::Write>(&self, f: &mut fmt::Formatter<W>) -> fmt::Result {
         match self.0 {
             Ok(load) => write!(f, "ok {load}"),
-            Err(refusal) => {
-                let number = refusal.number();
-                write!(f, "R{number}")
-            }
+            Err(refusal) => Refused::from(refusal).fmt(f),
         }
     }
 }
@@ -89,10 +88,7 @@ impl fmt::Display for SeatsText<'_> {
                 let row = RowText(seats);
                 write!(f, "ok {count}{row}")
             }
-            Err(refusal) => {
-                let number = refusal.number();
-                write!(f, "R{number}")
-            }
+            Err(refusal) => Refused::from(refusal).fmt(f),
         }
     }
 }

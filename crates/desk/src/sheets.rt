@@ -5,6 +5,7 @@ ghost use Rattle.desk.specs.Texts.{entries_text, sheet_text};
 use seating::AdmitRefusal;
 use std::fmt;
 
+// Apart from a trace's places: those stand behind commas, and one text for both would take the mark as a value.
 /// The entries of a sheet, each behind a space.
 #[derive(Clone, Copy)]
 pub(crate) struct EntriesText<'a>(pub(crate) &'a [u32]);

@@ -1,10 +1,10 @@
 // The rack's answers to admissions and withdrawals, in words.
-ghost use Rattle.std.specs.Prelude.{◌≡◌, Some};
+ghost use Rattle.std.specs.Prelude.{Some};
 ghost use Rattle.desk.specs.Texts.{admit_text, withdraw_text};
 
 use crate::sheets::shown_at;
-use seating::{AdmitRefusal, WithdrawRefusal};
-use std::fmt;
+use seating::{AdmitRefusal, Refused, WithdrawRefusal};
+use std::fmt::{self, Display};
 use tasks::{Ticks, Units};
 
 /// The answer to an admission: the processor and the instant, or the refusal and what it shows of the sheet.
@@ -19,19 +19,17 @@ impl fmt::Display for AdmitText<'_> {
 
     fn fmt<W: fmt::Write>(&self, f: &mut fmt::Formatter<W>) -> fmt::Result {
         match self.answer {
-            Ok((processor, instant)) => {
-                let ticks = instant.0;
-                write!(f, "ok {processor} {ticks}")
-            }
+            Ok((processor, instant)) => write!(f, "ok {processor} {instant}"),
             Err(refusal) => {
-                let number = refusal.number();
+                let text = Refused::from(refusal);
                 let entries = shown_at(refusal, self.sheet);
-                write!(f, "R{number}{entries}")
+                write!(f, "{text}{entries}")
             }
         }
     }
 }
 
+// Each answer matches for itself, here and at the questions: one text for all would need a text type for each `ok` line, and say no more.
 /// The answer to a withdrawal: the processor, the work and the period, or the refusal.
 #[derive(Clone, Copy)]
 pub(crate) struct WithdrawText(pub(crate) Result<(usize, Units, Ticks), WithdrawRefusal>);
@@ -41,15 +39,8 @@ impl fmt::Display for WithdrawText {
 
     fn fmt<W: fmt::Write>(&self, f: &mut fmt::Formatter<W>) -> fmt::Result {
         match self.0 {
-            Ok((processor, work, period)) => {
-                let units = work.0;
-                let ticks = period.0;
-                write!(f, "ok {processor} {units} {ticks}")
-            }
-            Err(refusal) => {
-                let number = refusal.number();
-                write!(f, "R{number}")
-            }
+            Ok((processor, work, period)) => write!(f, "ok {processor} {work} {period}"),
+            Err(refusal) => Refused::from(refusal).fmt(f),
         }
     }
 }

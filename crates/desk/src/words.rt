@@ -1,7 +1,7 @@
 // The words that the desk's calls begin with.
-ghost use Rattle.std.specs.Prelude.{◌≡◌, ℕ, List, ◌∷◌, ◌++◌, MatchOption, MatchResult, ◌≢◌};
+ghost use Rattle.std.specs.Prelude.{◌≡◌, ℕ, List, ◌∷◌, ◌++◌, MatchOption, ◌≢◌};
 ghost use Rattle.desk.specs.Names.{name_of};
-ghost use Rattle.script.specs.declared.no_call.NoCall.TheVariants.{Unreadable};
+ghost use Rattle.script.specs.NoCalls.{Named};
 
 use script::{NoCall, split_word};
 use std::str::FromStr;
@@ -23,9 +23,9 @@ pub enum Word {
 impl FromStr for Word {
     type Err = NoCall;
 
-    fn from_str(text: &str) -> Result<Word, NoCall>
-        ensures { MatchResult result (λ w. text.now ≡ name_of w) (λ e. (e ≡ Unreadable) × ((w : Word) → text.now ≢ name_of w)) }
-    {
+    ghost from_str_gives = { λ text r. Named name_of text r };
+
+    fn from_str(text: &str) -> Result<Word, NoCall> {
         match text {
             "read" => Ok(Word::Read),
             "play" => Ok(Word::Play),

@@ -9,6 +9,7 @@ use tasks::{Task, Ticks};
 pub trait Judge {
     ghost meaning: { Self → Meaning };
 
+    // The task and those above it stand side by side, as callers have them: a pair would be made anew for each question.
     fn ask(&mut self, task: Task, above: &[Task]) -> Option<Ticks>
         ensures answer { result ≡ meaning self.old task above.now }
         ensures same { meaning self.new ≡ meaning self.old };

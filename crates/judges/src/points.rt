@@ -45,7 +45,7 @@ fn earlier(a: Ticks, b: Ticks) -> Ticks
     a.min(b)
 }
 
-// Whether an instant comes after the task's period.
+// Whether an instant comes after the task's period. Apart from the step-up judge's `is_within`, its opposite: each judge has its own bound.
 fn is_past(t: Ticks, task: Task) -> bool
     ensures { result ≡ nat_lt task.period.0 t.0 }
 {
@@ -53,7 +53,7 @@ fn is_past(t: Ticks, task: Task) -> bool
 }
 
 impl Question<'_> {
-    // The points judge's answer.
+    // The points judge's answer. Both loops in one function, the outer one left by its label: a rule of the project.
     fn first_good_point(&self) -> Option<Ticks>
         ensures { result ≡ least_good_point self.now.task self.now.above.now }
     {

@@ -6,7 +6,7 @@ ghost use Rattle.judges.specs.Weighing.{Weighs};
 
 use tasks::{Speed, Task, Ticks, Units, all_keep_limits, demand_at};
 
-/// A task below others that a judge may be asked about: only the test of what may be asked makes one.
+// A task below others that a judge may be asked about: only the test of what may be asked makes one.
 #[derive(Clone, Copy)]
 pub(crate) struct Question<'a> {
     pub(crate) task: Task,
@@ -35,19 +35,19 @@ fn is_done(demand: Units, t: Ticks) -> bool
     demand <= Speed::one().units_in(t)
 }
 
-/// What the demand at an instant says: three cases, so no Option.
+// What the demand at an instant says: three cases, so no Option.
 #[derive(Clone, Copy)]
 pub(crate) enum Weighed {
-    /// It is done by then: the instant is good.
+    // It is done by then: the instant is good.
     Done,
-    /// Neither this instant nor a later one below the given one is good.
+    // Neither this instant nor a later one below the given one is good.
     NotBefore(Ticks),
-    /// Nor is any later one.
+    // Nor is any later one.
     Never,
 }
 
 impl<'a> Question<'a> {
-    /// The question, where it may be asked.
+    // The question, where it may be asked.
     pub(crate) fn new(task: Task, above: &'a [Task]) -> Option<Question<'a>>
         ensures { MatchOption result (asked task above.now ≡ false) (λ question. (question.task ≡ task) × (question.above.now ≡ above.now)) }
     {
@@ -57,7 +57,7 @@ impl<'a> Question<'a> {
         Some(Question { task, above })
     }
 
-    /// Where the demand at `t` is not done in `t`, nothing is good before the instant at which that demand is done.
+    // Where the demand at `t` is not done in `t`, nothing is good before the instant at which that demand is done.
     pub(crate) fn weigh(&self, t: Ticks) -> Weighed
         ensures { Weighs self.now.task self.now.above.now t.0 result }
     {
@@ -67,9 +67,8 @@ impl<'a> Question<'a> {
         if is_done(demand, t) {
             return Weighed::Done;
         }
-        match Speed::one().ticks_for(demand) {
-            Some(later) => Weighed::NotBefore(later),
-            None => Weighed::Never,
-        }
+        Speed::one()
+            .ticks_for(demand)
+            .map_or(Weighed::Never, Weighed::NotBefore)
     }
 }

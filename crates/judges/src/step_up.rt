@@ -26,7 +26,7 @@ pub fn steps_are_least()
     ensures { StepsAreLeast }
 {}
 
-// Whether an instant lies within the task's period.
+// Whether an instant lies within the task's period: the bound of this judge, as `is_past` is that of the points judge.
 fn is_within(t: Ticks, task: Task) -> bool
     ensures { result ≡ nat_le t.0 task.period.0 }
 {

@@ -1,11 +1,10 @@
 // One line of the player.
 ghost use Rattle.std.specs.Prelude.{◌≡◌, ◌+◌, ◌≤◌, ◌++◌, true, length, codes};
-ghost use Rattle.arrayvec.specs.ArrayVec.{array_vec_len};
 ghost use Rattle.rackfile.specs.Records.{length_allowed};
 ghost use Rattle.lines.specs.Texts.{seen_as, head_text, tail_text, writable};
 ghost use Rattle.lines.specs.Writing.{Written};
 
-use crate::text::{Text, put, put_field, put_fields, put_number, put_refusal};
+use crate::text::Text;
 
 /// What a line says. All its numbers have 32 bits, so that the longest line has room in 64 bytes.
 #[derive(Clone, Copy, Debug, PartialEq, Eq)]
@@ -42,11 +41,11 @@ pub enum Line<'a> {
     },
 }
 
-// Whether a label may be written.
+// Whether a label may be written. The file's rule stated again: a line may be of a label that no file gave.
 fn is_label(label: &[u8]) -> bool
     ensures { result ≡ length_allowed (length label.now) }
 {
-    1 <= label.len() && label.len() <= 16
+    (1..=16).contains(&label.len())
 }
 
 // Whether a line can be written.
@@ -62,44 +61,44 @@ fn is_writable(line: Line<'_>) -> bool
 // What a line begins with.
 fn head(line: Line<'_>) -> Text
     requires { writable (seen_as line) ≡ true }
-    ensures items { result.items ≡ head_text (seen_as line.entry) }
-    ensures bound { array_vec_len result ≤ 29 }
+    ensures items { result ≡ head_text (seen_as line.entry) }
+    ensures bound { length result ≤ 29 }
 {
     let mut text = Text::new();
     match line {
         Line::Admitted { index, label, .. } | Line::NotAdmitted { index, label, .. } => {
-            put_number(&mut text, index);
-            put(&mut text, b" A ");
-            put(&mut text, label);
+            text.put_number(index);
+            text.put(b" A ");
+            text.put(label);
         }
         Line::Withdrawn { index, number, .. } | Line::NotWithdrawn { index, number, .. } => {
-            put_number(&mut text, index);
-            put(&mut text, b" W ");
-            put_number(&mut text, number);
+            text.put_number(index);
+            text.put(b" W ");
+            text.put_number(number);
         }
-        Line::Unreadable { .. } => put(&mut text, b"F"),
+        Line::Unreadable { .. } => text.put(b"F"),
     }
     text
 }
 
 // What it ends with.
 fn put_tail(text: &mut Text, line: Line<'_>)
-    requires { array_vec_len text.old + 23 ≤ 64 }
-    ensures { text.new.items ≡ text.old.items ++ (tail_text (seen_as line.entry) ++ codes "\n") }
+    requires { length text.old + 23 ≤ 64 }
+    ensures { text.new ≡ text.old ++ (tail_text (seen_as line.entry) ++ codes "\n") }
 {
     match line {
         Line::Admitted {
             processor,
             instant,
             ..
-        } => put_fields(text, processor, instant),
-        Line::Withdrawn { processor, .. } => put_field(text, processor),
+        } => text.put_fields(processor, instant),
+        Line::Withdrawn { processor, .. } => text.put_behind(b" ", processor),
         Line::NotAdmitted { refusal, .. } | Line::NotWithdrawn { refusal, .. } => {
-            put_refusal(text, refusal)
+            text.put_behind(b" R", refusal)
         }
-        Line::Unreadable { number, place } => put_fields(text, number, place),
+        Line::Unreadable { number, place } => text.put_fields(number, place),
     }
-    put(text, b"\n");
+    text.put(b"\n");
 }
 
 /// Writes a line at the front of the buffer and answers its length, its last byte 0A counted; the rest of the buffer stays.
@@ -107,12 +106,14 @@ fn put_tail(text: &mut Text, line: Line<'_>)
 pub fn write_line(out: &mut [u8; 64], line: Line<'_>) -> usize
     ensures { Written out.old out.new (seen_as line.entry) result }
 {
+    // The caller's buffer, and the length answered beside it: nothing is allocated.
     if !is_writable(line) {
         return 0;
     }
     let mut text = head(line);
     put_tail(&mut text, line);
-    let n = text.len();
-    out[..n].copy_from_slice(&text);
+    let bytes = text.as_slice();
+    let n = bytes.len();
+    out[..n].copy_from_slice(bytes);
     n
 }

@@ -1,58 +1,78 @@
-// The text of a line while it is put together. Each call asks for the room that it fills, another with each, so none allocates and none fails.
-ghost use Rattle.std.specs.Prelude.{◌≡◌, ◌+◌, ◌≤◌, ◌++◌, length, decimal};
-ghost use Rattle.arrayvec.specs.ArrayVec.{array_vec_len};
-ghost use Rattle.lines.specs.Texts.{field_text, refusal_text};
+// The text of a line while it is put together.
+ghost use Rattle.std.specs.Prelude.{◌≡◌, ◌+◌, ◌≤◌, [], ◌++◌, length, decimal};
+ghost use Rattle.lines.specs.Texts.{field_text};
 
 use arrayvec::ArrayVec;
 use itoa::Buffer;
+use std::marker::Model;
 
 // Bytes, and not an ArrayString: a label is any bytes.
-pub(crate) type Text = ArrayVec<u8, 64>;
-
-// Bytes behind what stands there.
-pub(crate) fn put(text: &mut Text, bytes: &[u8])
-    requires { array_vec_len text.old + length bytes.now ≤ 64 }
-    ensures { text.new.items ≡ text.old.items ++ bytes.now }
-{
-    // There is room, so none is refused.
-    let _ = text.try_extend_from_slice(bytes);
+#[derive(Drop)]
+pub(crate) struct Text {
+    bytes: ArrayVec<u8, 64>,
 }
 
-// A number in decimal digits, at most ten.
-pub(crate) fn put_number(text: &mut Text, n: u32)
-    requires { array_vec_len text.old + 10 ≤ 64 }
-    ensures items { text.new.items ≡ text.old.items ++ decimal n }
-    ensures bound { array_vec_len text.new ≤ array_vec_len text.old + 10 }
-{
-    put(text, Buffer::new().format(n).as_bytes());
+impl Model for Text {
+    ghost use Rattle.std.specs.Prelude.{List, ℕ};
+
+    ghost Value = { List ℕ };
+
+    ghost view = { λ text. text.bytes.items };
 }
 
-// A number behind a space.
-pub(crate) fn put_field(text: &mut Text, n: u32)
-    requires { array_vec_len text.old + 11 ≤ 64 }
-    ensures items { text.new.items ≡ text.old.items ++ field_text n }
-    ensures bound { array_vec_len text.new ≤ array_vec_len text.old + 11 }
-{
-    put(text, b" ");
-    put_number(text, n);
-}
+// Each call asks for the room that it fills, another with each, so none allocates and none fails.
+impl Text {
+    pub(crate) fn new() -> Text
+        ensures { result ≡ [] }
+    {
+        Text {
+            bytes: ArrayVec::new(),
+        }
+    }
 
-// Two numbers, each behind a space.
-pub(crate) fn put_fields(text: &mut Text, first: u32, second: u32)
-    requires { array_vec_len text.old + 22 ≤ 64 }
-    ensures items { text.new.items ≡ text.old.items ++ (field_text first ++ field_text second) }
-    ensures bound { array_vec_len text.new ≤ array_vec_len text.old + 22 }
-{
-    put_field(text, first);
-    put_field(text, second);
-}
+    // Bytes behind what stands there.
+    pub(crate) fn put(&mut self, bytes: &[u8])
+        requires { length self.old + length bytes.now ≤ 64 }
+        ensures { self.new ≡ self.old ++ bytes.now }
+    {
+        // There is room, so none is refused.
+        let _ = self.bytes.try_extend_from_slice(bytes);
+    }
 
-// The number of a refusal, behind a space and the letter R.
-pub(crate) fn put_refusal(text: &mut Text, n: u32)
-    requires { array_vec_len text.old + 12 ≤ 64 }
-    ensures items { text.new.items ≡ text.old.items ++ refusal_text n }
-    ensures bound { array_vec_len text.new ≤ array_vec_len text.old + 12 }
-{
-    put(text, b" R");
-    put_number(text, n);
+    // A number in decimal digits, at most ten.
+    pub(crate) fn put_number(&mut self, n: u32)
+        requires { length self.old + 10 ≤ 64 }
+        ensures items { self.new ≡ self.old ++ decimal n }
+        ensures bound { length self.new ≤ length self.old + 10 }
+    {
+        self.put(Buffer::new().format(n).as_bytes());
+    }
+
+    // A number behind a mark, which is a space, or a space and a letter.
+    pub(crate) fn put_behind(&mut self, mark: &[u8], n: u32)
+        requires { length self.old + (length mark.now + 10) ≤ 64 }
+        ensures items { self.new ≡ self.old ++ (mark.now ++ decimal n) }
+        ensures bound { length self.new ≤ length self.old + (length mark.now + 10) }
+    {
+        self.put(mark);
+        self.put_number(n);
+    }
+
+    // Two numbers, each behind a space.
+    pub(crate) fn put_fields(&mut self, first: u32, second: u32)
+        requires { length self.old + 22 ≤ 64 }
+        ensures items { self.new ≡ self.old ++ (field_text first ++ field_text second) }
+        ensures bound { length self.new ≤ length self.old + 22 }
+    {
+        self.put_behind(b" ", first);
+        self.put_behind(b" ", second);
+    }
+
+    // All of them.
+    pub(crate) fn as_slice(&self) -> &[u8]
+        ensures items { result.now ≡ self.now }
+        ensures bound { length result.now ≤ 64 }
+    {
+        self.bytes.as_slice()
+    }
 }

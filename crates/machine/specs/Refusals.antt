@@ -1,5 +1,5 @@
 -- What a rehearsal refuses, and in which order.
-use Rattle.std.specs.Prelude.{◌≡◌, ℕ, Bool, cond, ◌&&◌, List, length, Some, None, Ok, Err, Option, Result, nat_le}
+use Rattle.std.specs.Prelude.{◌≡◌, ℕ, Bool, cond, ◌&&◌, List, ◌++◌, length, codes, decimal, Some, None, Ok, Err, Option, Result, nat_le}
 use Rattle.tasks.specs.declared.task.Task.{Task}
 use Rattle.tasks.specs.Limits.{all_within}
 use Rattle.machine.specs.declared.state.Release.{Release}
@@ -14,6 +14,10 @@ abbrev pub number_of : Refusal → ℕ
 number_of Tasks = 18
 number_of Horizon = 19
 number_of Releases = 20
+
+-- how a refusal is shown
+abbrev pub refusal_text : Refusal → List ℕ
+refusal_text refusal = codes "R" ++ decimal (number_of refusal)
 
 -- no two refusals have one number
 abbrev pub NumbersDiffer : Type 0

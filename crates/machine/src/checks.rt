@@ -1,14 +1,14 @@
 // What a plan is looked over for.
-ghost use Rattle.std.specs.Prelude.{◌≡◌, ◌+◌, ◌^◌, ◌<◌, ◌≤◌, true, ◌&&◌, length, nat_le, nat_lt};
+ghost use Rattle.std.specs.Prelude.{◌≡◌, ◌≤◌, true, ◌&&◌, length, nat_le, nat_lt};
 ghost use Rattle.tasks.specs.Limits.{all_within};
 ghost use Rattle.machine.specs.Lawful.{lawful};
 ghost use Rattle.machine.specs.Refusals.{tasks_allowed, horizon_allowed, releases_allowed};
 ghost use Rattle.machine.specs.Separation.{may_come};
 
-use crate::state::Release;
+use crate::state::{Release, after};
 use tasks::{Task, Ticks, all_keep_limits};
 
-// Whether there may be so many tasks: at most 33.
+// Whether there may be so many tasks: at most 33. Each limit has a function of its own: a const parameter would only take its number away.
 fn is_task_count(count: usize) -> bool
     ensures { result ≡ nat_le count 33 }
 {
@@ -50,16 +50,8 @@ fn comes_in_time(release: &Release, last: Ticks, free: Ticks) -> bool
     last <= release.instant && free <= release.instant
 }
 
-// When a place that is released at an instant may be released again.
-fn free_from(instant: Ticks, period: Ticks) -> Ticks
-    requires { instant.0 + period.0 < 2 ^ 32 }
-    ensures { result.0 ≡ instant.0 + period.0 }
-{
-    Ticks(instant.0 + period.0)
-}
-
-// Whether the releases are lawful, in one pass over them. The pass carries the last instant, and for each place (of fixed memory, 33) when
-// it is free: a chain that carries both is no plainer.
+// Whether the releases are lawful. A pass carries the last instant and, in fixed memory, when each of 33 places is free: a chain with
+// both is no plainer.
 fn is_lawful(tasks: &[Task], horizon: Ticks, releases: &[Release]) -> bool
     requires few { length tasks.now ≤ 33 }
     requires limits { all_within tasks.now ≡ true }
@@ -76,7 +68,7 @@ fn is_lawful(tasks: &[Task], horizon: Ticks, releases: &[Release]) -> bool
             return false;
         }
         last = release.instant;
-        free[release.place] = free_from(release.instant, tasks[release.place].period);
+        free[release.place] = after(release.instant, tasks[release.place].period);
     }
     true
 }

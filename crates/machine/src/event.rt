@@ -3,7 +3,7 @@ ghost use Rattle.std.specs.Prelude.{◌≡◌, ◌+◌, ◌^◌, ◌<◌, if◌t
 ghost use Rattle.machine.specs.Events.{after, given_tick, fresh};
 ghost use Rattle.machine.specs.Machine.{late, worked};
 
-use crate::state::State;
+use crate::state::{State, after};
 use tasks::{Speed, Task, Ticks, Units};
 
 // What happens to a task: its deadline may be now, a job is released to it, or the processor is free for it.
@@ -60,7 +60,7 @@ pub(crate) fn react(state: State, event: Event) -> (State, Mark)
             },
             Mark::Quiet,
         ),
-        (State::Idle, Event::Deadline { instant: _ }) => (State::Idle, Mark::Quiet),
+        (State::Idle, Event::Deadline { .. }) => (State::Idle, Mark::Quiet),
         (State::Waiting { left, deadline }, Event::Deadline { instant }) => (
             State::Waiting { left, deadline },
             at_deadline(deadline, instant),
@@ -75,7 +75,7 @@ pub(crate) fn with_job(state: State, task: Task, instant: Ticks) -> State
     requires { instant.0 + task.period.0 < 2 ^ 32 }
     ensures { result ≡ fresh task instant.0 }
 {
-    let deadline = Ticks(instant.0 + task.period.0);
+    let deadline = after(instant, task.period);
     let (next, _) = react(
         state,
         Event::Release {

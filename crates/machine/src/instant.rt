@@ -42,20 +42,7 @@ pub(crate) fn releases_now<'a>(releases: &'a [Release], instant: Ticks) -> &'a [
 fn is_due(release: &Release, instant: Ticks, count: usize) -> bool
     ensures { result ≡ (release.now.instant.0 == instant.0 && nat_lt release.now.place count) }
 {
-    release.instant == instant && release.place < count
-}
-
-// The releases that are now come to their tasks, wherever they stand in the list.
-fn release_all(tasks: &[Task], releases: &[Release], instant: Ticks, states: &mut [State])
-    requires sizes { length states.old ≡ length tasks.now }
-    requires fits { deadlines_fit tasks.now instant.0 ≡ true }
-    ensures { states.new ≡ with_releases releases.now instant.0 0 tasks.now states.old }
-{
-    for release in releases {
-        if is_due(release, instant, tasks.len()) {
-            states[release.place] = with_job(states[release.place], tasks[release.place], instant);
-        }
-    }
+    is_now(release, instant) && release.place < count
 }
 
 // The first waiting task does its work of one tick; the busy ticks, 1 or 0.
@@ -72,21 +59,40 @@ fn run_first(states: &mut [State]) -> Ticks
     Ticks(0)
 }
 
-// One instant below the horizon: first the deadlines, then the releases, then the work.
-pub(crate) fn one_instant(
-    tasks: &[Task],
-    releases: &[Release],
-    instant: Ticks,
-    states: &mut [State],
-) -> Moment
-    requires sizes { length states.old ≡ length tasks.now }
-    requires fits { deadlines_fit tasks.now instant.0 ≡ true }
-    ensures { Done tasks.now releases.now instant.0 states.old states.new result }
-{
-    if let Some(place) = first_missed(states, instant) {
-        return Moment::Missed(place);
+// An instant: the tasks, the releases and when it is, where a job of each task that is released then has a deadline that fits.
+// The states stand beside it, as beside a run, since only they change.
+#[derive(Clone, Copy)]
+pub(crate) struct Now<'a> {
+    pub(crate) tasks: &'a [Task],
+    pub(crate) releases: &'a [Release],
+    pub(crate) instant: Ticks,
+    pub(crate) ghost fits: { deadlines_fit tasks.now instant.0 ≡ true },
+}
+
+impl Now<'_> {
+    // The releases that are now come to their tasks, wherever they stand in the list.
+    fn release_all(&self, states: &mut [State])
+        requires { length states.old ≡ length self.now.tasks.now }
+        ensures { states.new ≡ with_releases self.now.releases.now self.now.instant.0 0 self.now.tasks.now states.old }
+    {
+        for release in self.releases {
+            if is_due(release, self.instant, self.tasks.len()) {
+                let place = release.place;
+                states[place] = with_job(states[place], self.tasks[place], self.instant);
+            }
+        }
     }
-    release_all(tasks, releases, instant, states);
-    let busy = run_first(states);
-    Moment::Went(busy)
+
+    // One instant below the horizon: first the deadlines, then the releases, then the work.
+    pub(crate) fn go_by(&self, states: &mut [State]) -> Moment
+        requires { length states.old ≡ length self.now.tasks.now }
+        ensures { Done self.now.tasks.now self.now.releases.now self.now.instant.0 states.old states.new result }
+    {
+        if let Some(place) = first_missed(states, self.instant) {
+            return Moment::Missed(place);
+        }
+        self.release_all(states);
+        let busy = run_first(states);
+        Moment::Went(busy)
+    }
 }

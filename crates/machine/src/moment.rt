@@ -2,7 +2,7 @@
 ghost use Rattle.std.specs.Prelude.{◌≡◌, ◌&&◌};
 ghost use Rattle.machine.specs.Moments.{deadline_fits, deadlines_fit, can_step, Stepped};
 
-use crate::instant::one_instant;
+use crate::instant::Now;
 use crate::state::{Moment, Release, State};
 use tasks::{Task, Ticks};
 
@@ -37,8 +37,14 @@ pub fn step(
 ) -> Option<Moment>
     ensures { Stepped tasks.now releases.now instant.0 states.old states.new result }
 {
+    // None and no error, as of a checked sum: the step cannot be done, and the rules have no number for that.
     if !can_step(tasks, instant, states) {
         return None;
     }
-    Some(one_instant(tasks, releases, instant, states))
+    let now = Now {
+        tasks,
+        releases,
+        instant,
+    };
+    Some(now.go_by(states))
 }

@@ -3,7 +3,7 @@ ghost use Rattle.std.specs.Prelude.{◌≡◌, ◌<◌, ◌≤◌, length};
 ghost use Rattle.machine.specs.Cursor.{Cursor};
 
 use crate::clock::Clock;
-use crate::instant::{one_instant, releases_now};
+use crate::instant::{Now, releases_now};
 use crate::plan::Plan;
 use crate::state::{Moment, Outcome, State};
 
@@ -43,15 +43,18 @@ impl<'a> Run<'a> {
         ensures step { Done self.old.plan.tasks.now self.old.plan.releases.now self.old.clock.instant.0 states.old states.new result }
     {
         let instant = self.clock.instant;
-        let now = releases_now(&self.plan.releases[self.cursor..], instant);
-        match one_instant(self.plan.tasks, now, instant, states) {
-            Moment::Missed(place) => Moment::Missed(place),
-            Moment::Went(busy) => {
-                self.cursor += now.len();
-                self.clock = self.clock.after(busy);
-                Moment::Went(busy)
-            }
+        let releases = releases_now(&self.plan.releases[self.cursor..], instant);
+        let now = Now {
+            tasks: self.plan.tasks,
+            releases,
+            instant,
+        };
+        let moment = now.go_by(states);
+        if let Moment::Went(busy) = moment {
+            self.cursor += releases.len();
+            self.clock = self.clock.after(busy);
         }
+        moment
     }
 }
 
@@ -62,6 +65,7 @@ impl<'a> Plan<'a> {
     pub fn run(&self) -> Outcome
         ensures { result ≡ outcome self.now.tasks.now self.now.horizon.0 self.now.releases.now }
     {
+        // fixed memory: a run allocates nothing
         let mut all = [State::Idle; 33];
         let states = &mut all[..self.tasks.len()];
         let mut run = Run::start(*self);

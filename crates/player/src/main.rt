@@ -13,15 +13,15 @@ fn main(rt: HostRuntime) -> anyhow::Result<()> {
         Ok(play) => play,
         Err(Stop::Fault(fault)) => {
             let n = write_fault(&mut out, fault);
-            rt.write_all(&out[0..n])?;
+            rt.write_all(&out[..n])?;
             return Ok(());
         }
         Err(Stop::Memory(_)) => return Err(anyhow!("no memory for the records")),
     };
     let mut sheet = [0u32; 16];
-    for (i, record) in records.iter().enumerate() {
-        let n = play_record(&mut rack, *record, i as u32, &mut sheet, &mut out);
-        rt.write_all(&out[0..n])?;
+    for (index, record) in (0u32..).zip(records) {
+        let n = play_record(&mut rack, record, index, &mut sheet, &mut out);
+        rt.write_all(&out[..n])?;
     }
     Ok(())
 }

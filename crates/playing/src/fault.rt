@@ -40,6 +40,7 @@ impl From<RefusedRecord> for PlayerFault {
 }
 
 /// Why nothing is played: a fault, or there is no memory for the records.
+// Not one generic type with `ReadError`: each is the error of one call, under a name of its own.
 #[derive(Clone, Copy, Debug, PartialEq, Eq)]
 pub enum Stop {
     Fault(PlayerFault),

@@ -13,6 +13,7 @@ use seating::Refused;
 use tasks::Task;
 
 /// Plays one record on the rack, writes its line at the front of the buffer and answers the line's length.
+// Five parameters: the rack, the record and its index, and the caller's own sheet and buffer, so that nothing is allocated.
 pub fn play_record<J: Judge, P: Preference>(
     rack: &mut Rack<J, P>,
     one: Record<'_>,
@@ -31,6 +32,7 @@ pub fn play_record<J: Judge, P: Preference>(
             label,
             ..
         } => {
+            // in both arms, since the two answers are of other types
             let answer = rack.admit(Task::of(number, work, period), sheet);
             let outcome = carried(index, answer.map_err(Refused::from));
             write_line(out, admission_line(index, label, outcome))

@@ -3,8 +3,9 @@ ghost use Rattle.std.specs.Prelude.{◌≡◌};
 ghost use Rattle.preferences.specs.Fits.{first_fit, best_fit, worst_fit};
 ghost use Rattle.std.proofs.Common.{rules};
 
-use super::contender::Contender;
-use super::preference::Preference;
+use crate::contender::Contender;
+use crate::preference::Preference;
+use std::cmp::Reverse;
 
 /// The smaller number goes first.
 #[derive(Clone, Copy, Debug, PartialEq, Eq)]
@@ -27,13 +28,13 @@ fn is_first(one: Contender, other: Contender) -> bool
 fn is_best(one: Contender, other: Contender) -> bool
     ensures { result ≡ best_fit one other }
 {
-    one.load > other.load || (one.load == other.load && is_first(one, other))
+    (Reverse(one.load), one.number) < (Reverse(other.load), other.number)
 }
 
 fn is_worst(one: Contender, other: Contender) -> bool
     ensures { result ≡ worst_fit one other }
 {
-    one.load < other.load || (one.load == other.load && is_first(one, other))
+    (one.load, one.number) < (other.load, other.number)
 }
 
 // Each law is found anew at its impl, so that a relation that breaks it is refused there.

@@ -4,11 +4,11 @@ ghost use Rattle.preferences.specs.Policies.{policy_before, letter_of, policy_na
 ghost use Rattle.preferences.specs.declared.policy.Policy.TheVariants.{First, Best, Worst};
 ghost use Rattle.preferences.specs.FitLaws.{first_laws, best_laws, worst_laws};
 
-use super::contender::Contender;
-use super::fits::{BestFit, FirstFit, WorstFit};
-use super::preference::Preference;
+use crate::contender::Contender;
+use crate::fits::{BestFit, FirstFit, WorstFit};
+use crate::preference::Preference;
 
-/// One of the three.
+/// Which of two processors goes first: by its number, by the greater load, or by the smaller load.
 #[derive(Clone, Copy, Debug, PartialEq, Eq)]
 pub enum Policy {
     First,

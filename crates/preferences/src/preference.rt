@@ -2,7 +2,7 @@
 ghost use Rattle.std.specs.Prelude.{◌≡◌};
 ghost use Rattle.preferences.specs.Laws.{Relation, PreferenceLaws};
 
-use super::contender::Contender;
+use crate::contender::Contender;
 
 /// A preference is asked about two processors and says whether the first goes before the second.
 /// Being asked may change its own state, but not the relation that it means.

@@ -1,6 +1,7 @@
 pub mod Shifting
 pub mod Taken
 pub mod Joining
+pub mod Shares
 pub mod Leaving
 pub mod Trying
 pub mod Renewings

@@ -14,33 +14,33 @@ use Rattle.rack.proofs.Soundness.{free_sound, admitted_sound, withdrawn_sound}
 moment : (b : Lists) → Sound b → AtMoment b
 moment b sound = at_moment b sound.kept_well sound.differ (λ x entries h. (passing b x entries h).limits)
 
-module _ {J P : Type 0} (mean : J → Meaning) (bef : P → Relation) where
+module _ {J P : Type 0} (meaning : J → Meaning) (before : P → Relation) where
   -- a step of the rack follows the rules on its lists, keeps the meanings, and leaves a sound rack
   record Follows (r s : Table J P) (e : Event) : Type 0 where
-    pub rules : Rules (mean r.judge) (bef r.preference) r.lists e s.lists
-    pub judge : mean s.judge ≡ mean r.judge
-    pub preference : bef s.preference ≡ bef r.preference
+    pub rules : Rules (meaning r.judge) (before r.preference) r.lists e s.lists
+    pub judge : meaning s.judge ≡ meaning r.judge
+    pub preference : before s.preference ≡ before r.preference
     pub sound : Sound s.lists
 
-  asked : (r s : Table J P) (e : Event) → Sound r.lists → s ≡ r → (s.lists ≡ r.lists → Rules (mean r.judge) (bef r.preference) r.lists e s.lists) → Follows r s e
+  asked : (r s : Table J P) (e : Event) → Sound r.lists → s ≡ r → (s.lists ≡ r.lists → Rules (meaning r.judge) (before r.preference) r.lists e s.lists) → Follows r s e
   asked r s e sound is rules = record {
     rules = rules (ap (λ (u : Table J P). u.lists) is);
-    judge = ap (λ (u : Table J P). mean u.judge) is;
-    preference = ap (λ (u : Table J P). bef u.preference) is;
+    judge = ap (λ (u : Table J P). meaning u.judge) is;
+    preference = ap (λ (u : Table J P). before u.preference) is;
     sound = subst (λ (u : Table J P). Sound u.lists) (sym is) sound;
   }
 
-  follows : ((j : J) → JudgeLaws (mean j)) → (r s : Table J P) (e : Event) → Sound r.lists → Step mean bef r e s → Follows r s e
+  follows : ((j : J) → JudgeLaws (meaning j)) → (r s : Table J P) (e : Event) → Sound r.lists → Step meaning before r e s → Follows r s e
   follows laws r s (admits x sheet a sheet') sound t = record {
     rules = t.admits;
     judge = t.judge;
     preference = t.preference;
-    sound = admitted_sound r.lists sound (mean r.judge) (laws r.judge) (bef r.preference) x sheet a sheet' s.lists t.admits;
+    sound = admitted_sound r.lists sound (meaning r.judge) (laws r.judge) (before r.preference) x sheet a sheet' s.lists t.admits;
   }
   follows laws r s (withdraws n a) sound t = record {
     rules = t.withdraws;
-    judge = ap mean t.judge;
-    preference = ap bef t.preference;
+    judge = ap meaning t.judge;
+    preference = ap before t.preference;
     sound = withdrawn_sound r.lists sound n a s.lists t.withdraws;
   }
   follows laws r s (finds n a) sound t = asked r s (finds n a) sound t.1 (λ e. (t.0, e))
@@ -51,16 +51,16 @@ module _ {J P : Type 0} (mean : J → Meaning) (bef : P → Relation) where
   carried m₁ m₂ f₁ f₂ b₁ b₂ es p q e h =
       subst (λ (b : Book). ClaimFrom m₂ f₂ b es) e (subst (λ (f : Relation). ClaimFrom m₂ f b₁ es) q (subst (λ (m : Meaning). ClaimFrom m f₁ b₁ es) p h))
 
-  claim_from : ((j : J) → JudgeLaws (mean j)) → (es : List Event) (r : Table J P) → Sound r.lists → Run mean bef r es → ClaimFrom (mean r.judge) (bef r.preference) r.lists es
+  claim_from : ((j : J) → JudgeLaws (meaning j)) → (es : List Event) (r : Table J P) → Sound r.lists → Run meaning before r es → ClaimFrom (meaning r.judge) (before r.preference) r.lists es
   claim_from laws [] r sound run = moment r.lists sound
   claim_from laws (e ∷ es) r sound (s, t, run) =
-      let m = mean r.judge in
-      let f = bef r.preference in
+      let m = meaning r.judge in
+      let f = before r.preference in
       let u = follows laws r s e sound t in (
         moment r.lists sound,
         of_call m f r.lists s.lists sound.differ e u.rules,
-        carried (mean s.judge) m (bef s.preference) f s.lists (after m r.lists e) es u.judge u.preference (written m f r.lists s.lists sound.differ e u.rules) (claim_from laws es s u.sound run),
+        carried (meaning s.judge) m (before s.preference) f s.lists (after m r.lists e) es u.judge u.preference (written m f r.lists s.lists sound.differ e u.rules) (claim_from laws es s u.sound run),
       )
 
-  pub whole_life : ((j : J) → JudgeLaws (mean j)) → (m : ℕ) → 1 ≤ m → m ≤ 16 → (j : J) (p : P) (es : List Event) → Run mean bef (record { lists = replicate m []; judge = j; preference = p }) es → MainClaim (mean j) (bef p) m es
+  pub whole_life : ((j : J) → JudgeLaws (meaning j)) → (m : ℕ) → 1 ≤ m → m ≤ 16 → (j : J) (p : P) (es : List Event) → Run meaning before (record { lists = replicate m []; judge = j; preference = p }) es → MainClaim (meaning j) (before p) m es
   whole_life laws m some few j p es run = claim_from laws es _ (free_sound m some few) run

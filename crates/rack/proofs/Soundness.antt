@@ -29,8 +29,8 @@ use Rattle.rack.specs.Table.{Sound}
 use Rattle.rack.proofs.Passing.{passing}
 use Rattle.rack.proofs.Taken.{refill_set}
 
-joined_kept : (mean : Meaning) → JudgeLaws mean → (x : Task) → within_limits x ≡ true → (ss new : List Seat) → length ss < 32 → KeptWell ss → Joins mean x ss new → KeptWell new
-joined_kept mean laws x own ss new room kept j =
+joined_kept : (meaning : Meaning) → JudgeLaws meaning → (x : Task) → within_limits x ≡ true → (ss new : List Seat) → length ss < 32 → KeptWell ss → Joins meaning x ss new → KeptWell new
+joined_kept meaning laws x own ss new room kept j =
     let ts = tasks_of ss in
     let us = map (λ (s : Seat). s.instant) new in
     let n : length new ≡ length ss + 1 = omega (arith, length-tasks new, ap (length {A = Task}) j.tasks, length-joined x ts, length-tasks ss) in
@@ -90,16 +90,16 @@ module _ (b : Lists) (sound : Sound b) where
       let old = ap (λ (l : Lists). remove (get_or l p d) at) (now ∙ is) ∙ ap (λ (l : List Seat). remove l at) (sym (get_or_default b p [] d sits.there)) in
       subst Sound (sym (refill_set items lent p new now ∙ ap (λ (l : Lists). set l p new) is ∙ ap (λ (l : List Seat). set b p l) (e ∙ old))) (left_sound p at sits.there sits.within)
 
-  pub admitted_sound : (mean : Meaning) → JudgeLaws mean → (bef : Relation) (x : Task) (sheet : List ℕ) (answer : Result (ℕ × Ticks) AdmitRefusal) (sheet' : List ℕ) (c : Lists)
-      → Admits mean bef b x sheet answer sheet' c → Sound c
-  admitted_sound mean laws bef x sheet (Ok a) sheet' c g =
+  pub admitted_sound : (meaning : Meaning) → JudgeLaws meaning → (before : Relation) (x : Task) (sheet : List ℕ) (answer : Result (ℕ × Ticks) AdmitRefusal) (sheet' : List ℕ) (c : Lists)
+      → Admits meaning before b x sheet answer sheet' c → Sound c
+  admitted_sound meaning laws before x sheet (Ok a) sheet' c g =
       let p = a.0 in
       let pass = passing b x (length sheet) g.passes in
       let there = g.preferred.there in
-      subst Sound (sym g.others) (changed p (on c p) there (joined_kept mean laws x pass.limits (on b p) (on c p) g.preferred.takes.room (sound.kept_well p there) g.joins)
+      subst Sound (sym g.others) (changed p (on c p) there (joined_kept meaning laws x pass.limits (on b p) (on c p) g.preferred.takes.room (sound.kept_well p there) g.joins)
       (differ_joined b p x (on c p) there sound.differ pass.new g.joins.tasks))
-  admitted_sound mean laws bef x sheet (Err e) sheet' c (inl early) = subst Sound (sym early.seats_stay) sound
-  admitted_sound mean laws bef x sheet (Err e) sheet' c (inr away) = subst Sound (sym away.1.seats_stay) sound
+  admitted_sound meaning laws before x sheet (Err e) sheet' c (inl early) = subst Sound (sym early.seats_stay) sound
+  admitted_sound meaning laws before x sheet (Err e) sheet' c (inr away) = subst Sound (sym away.1.seats_stay) sound
 
   pub withdrawn_sound : (n : ℕ) (answer : Result (ℕ × Units × Ticks) WithdrawRefusal) (c : Lists) → Withdraws b n answer c → Sound c
   withdrawn_sound n (Ok a) c l = subst Sound (sym l.seats) (left_sound a.0 l.at l.sits.there l.sits.within)

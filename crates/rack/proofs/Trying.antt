@@ -20,9 +20,9 @@ ok_or_err None e d h = (refl, cc)
 ok_or_err (Some x) e d h = cc
 
 -- the first task that has no instant
-pub none_so : (mean now : Meaning) → now ≡ mean → (ts : List Task) (from i : ℕ) (o : Option Ticks) (r : Result Ticks Declined) (d : Declined) → from ≤ i → i < length ts → o ≡ said now ts i → r ≡ ok_or o (Unfit (get_or ts i no_task).number) → r ≡ Err d
-    → ((k : ℕ) → from ≤ k → k < i → (t : Ticks) × (said mean ts k ≡ Some t)) → Judged mean ts from (Err d)
-none_so mean now same ts from i o r d lo hi answer is err others =
+pub none_so : (meaning now : Meaning) → now ≡ meaning → (ts : List Task) (from i : ℕ) (o : Option Ticks) (r : Result Ticks Declined) (d : Declined) → from ≤ i → i < length ts → o ≡ said now ts i → r ≡ ok_or o (Unfit (get_or ts i no_task).number) → r ≡ Err d
+    → ((k : ℕ) → from ≤ k → k < i → (t : Ticks) × (said meaning ts k ≡ Some t)) → Judged meaning ts from (Err d)
+none_so meaning now same ts from i o r d lo hi answer is err others =
     let none = ok_or_err o (Unfit (get_or ts i no_task).number) d (sym is ∙ err) in (
       _,
       none.1,
@@ -36,24 +36,24 @@ none_so mean now same ts from i o r d lo hi answer is err others =
       },
     )
 
-module _ (mean : Meaning) (x : Task) (ss : List Seat) (place : ℕ) (at : place ≡ place_of x (tasks_of ss)) (room : length ss < 32)
-    (ts : List Task) (is : ts ≡ joined x (tasks_of ss)) (r : Result (ArrayVec Ticks) Declined) (judged : Judged mean ts place r) where
+module _ (meaning : Meaning) (x : Task) (ss : List Seat) (place : ℕ) (at : place ≡ place_of x (tasks_of ss)) (room : length ss < 32)
+    (ts : List Task) (is : ts ≡ joined x (tasks_of ss)) (r : Result (ArrayVec Ticks) Declined) (judged : Judged meaning ts place r) where
   long : length ts ≡ length ss + 1
   long = omega (arith, ap (length {A = Task}) is, length-joined x (tasks_of ss), length-tasks ss)
 
-  pub took : (us : ArrayVec Ticks) → r ≡ Ok us → Took mean x ss (record { place = place; instants = us })
+  pub took : (us : ArrayVec Ticks) → r ≡ Ok us → Took meaning x ss (record { place = place; instants = us })
   took us ok =
-      let s : AllSaid mean ts place us.items = subst (λ (q : Result (ArrayVec Ticks) Declined). Judged mean ts place q) ok judged in
+      let s : AllSaid meaning ts place us.items = subst (λ (q : Result (ArrayVec Ticks) Declined). Judged meaning ts place q) ok judged in
       record {
         trial = record { room = room; place = at; count = omega (arith, s.count, long, place_le x (tasks_of ss), length-tasks ss) };
-        each = λ k lo hi. subst (λ (l : List Task). said mean l k ≡ Some (get_or us.items (k - place) no_ticks)) is (s.each k lo (omega (arith, long)));
+        each = λ k lo hi. subst (λ (l : List Task). said meaning l k ≡ Some (get_or us.items (k - place) no_ticks)) is (s.each k lo (omega (arith, long)));
       }
 
-  pub declines : (d : Declined) → r ≡ Err d → Declines mean x ss d
+  pub declines : (d : Declined) → r ≡ Err d → Declines meaning x ss d
   declines d err =
-      let s : Judged mean (joined x (tasks_of ss)) place (Err d) = subst (λ (l : List Task). Judged mean l place (Err d)) is (subst (λ (q : Result (ArrayVec Ticks) Declined). Judged mean ts place q) err judged) in
+      let s : Judged meaning (joined x (tasks_of ss)) place (Err d) = subst (λ (l : List Task). Judged meaning l place (Err d)) is (subst (λ (q : Result (ArrayVec Ticks) Declined). Judged meaning ts place q) err judged) in
       let none = s.2 in
-      subst (λ (e : Declined). Declines mean x ss e) (sym s.1) (
+      subst (λ (e : Declined). Declines meaning x ss e) (sym s.1) (
         room,
         record {
           at = none.at;

@@ -1,5 +1,6 @@
 -- The choice among the processors that would take a newcomer: what the inner functions hand to one another.
-use Rattle.std.specs.Prelude.{◌≡◌, ℕ, ◌<◌, ◌≤◌, true, cond, List, length, Some, None, Option, ◌≢◌, slice_index}
+use Rattle.std.specs.Prelude.{◌≡◌, ℕ, ◌<◌, ◌≤◌, true, cond, List, [], length, Some, None, Ok, Err, Option, Result, ◌≢◌, slice_index}
+use Rattle.arrayvec.specs.ArrayVec.{ArrayVec}
 use Rattle.tasks.specs.declared.task.Task.{Task}
 use Rattle.judges.specs.Laws.{Meaning}
 use Rattle.preferences.specs.Laws.{Relation}
@@ -32,6 +33,12 @@ module _ (meaning : Meaning) where
   Best before b x k entries (Some o) = (o.contender.number < k) × (o.contender ≡ as_seen b o.contender.number) × Took meaning x (on b o.contender.number) o.trial
       × ((q : ℕ) → q < k → (q ≢ o.contender.number) → Willing x (on b q) → before o.contender (as_seen b q) ≡ true)
 
-  pub record Chosen (before : Relation) (b : Lists) (x : Task) (k : ℕ) (c : Choice) : Type 0 where
+  -- the choice so far, of the first k processors
+  pub record ChosenSoFar (before : Relation) (b : Lists) (x : Task) (k : ℕ) (c : Choice) : Type 0 where
     pub few : length c.entries.items ≤ k
     pub best : Best before b x k c.entries.items c.best
+
+  -- of all processors the best one, or what the sheet is to say of each
+  abbrev pub Chosen : Relation → Lists → Task → Result Taker (ArrayVec ℕ) → Type 0
+  Chosen before b x (Ok o) = Best before b x (length b) [] (Some o)
+  Chosen before b x (Err entries) = Best before b x (length b) entries.items None

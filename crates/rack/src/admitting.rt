@@ -7,8 +7,9 @@ ghost use Rattle.rack.specs.Choices.{Chosen};
 ghost use Rattle.rack.specs.Table.{Sound};
 ghost use Rattle.rack.specs.Steps.{Step};
 
-use super::choice::{Choice, choose};
+use super::choice::{Taker, choose};
 use super::rack::Rack;
+use arrayvec::ArrayVec;
 use judges::Judge;
 use preferences::Preference;
 use seating::{AdmitRefusal, bad_call};
@@ -37,7 +38,7 @@ impl<J: Judge, P: Preference> Rack<J, P> {
             &mut self.preference,
             task,
         );
-        self.settle(task, &choice, sheet)
+        self.settle(task, choice, sheet)
     }
 
     // Whether each processor has 32 tasks.
@@ -66,11 +67,11 @@ impl<J: Judge, P: Preference> Rack<J, P> {
     fn settle(
         &mut self,
         newcomer: Task,
-        choice: &Choice,
+        choice: Result<Taker, ArrayVec<u32, 16>>,
         sheet: &mut [u32],
     ) -> Result<(usize, Ticks), AdmitRefusal>
         requires passes { earlier self.old.lists newcomer (length sheet.old) ≡ None }
-        requires chosen { Chosen (J.meaning self.old.judge) (P.before self.old.preference) self.old.lists newcomer (length self.old.lists) choice.now }
+        requires chosen { Chosen (J.meaning self.old.judge) (P.before self.old.preference) self.old.lists newcomer choice }
         ensures admits { Admits (J.meaning self.old.judge) (P.before self.old.preference) self.old.lists newcomer sheet.old result sheet.new self.new.lists }
         ensures judge { self.new.judge ≡ self.old.judge }
         ensures preference { self.new.preference ≡ self.old.preference }
@@ -78,12 +79,16 @@ impl<J: Judge, P: Preference> Rack<J, P> {
     {
         // With a field in use the rack's invariant is known, in both cases.
         let _ = &self.processors;
-        let Some(taker) = &choice.best else {
-            fill(sheet, &choice.entries);
-            return Err(AdmitRefusal::NoTaker);
-        };
-        let p = taker.contender.number;
-        self.processors[p].join(newcomer, &taker.trial);
-        Ok((p, taker.trial.instants[0]))
+        match choice {
+            Ok(taker) => {
+                let p = taker.contender.number;
+                self.processors[p].join(newcomer, &taker.trial);
+                Ok((p, taker.trial.instants[0]))
+            }
+            Err(entries) => {
+                fill(sheet, &entries);
+                Err(AdmitRefusal::NoTaker)
+            }
+        }
     }
 }

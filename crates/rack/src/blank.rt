@@ -4,7 +4,7 @@ ghost use Rattle.std.specs.Prelude.{◌≡◌};
 use seating::MakeRefusal;
 
 /// What a refused making hands over: no processors, but the judge and the preference back.
-#[derive(Drop)]
+#[derive(Debug, PartialEq, Eq, Drop)]
 pub struct Blank<J, P> {
     pub(crate) refusal: MakeRefusal,
     pub(crate) judge: J,

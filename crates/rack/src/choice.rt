@@ -1,5 +1,5 @@
 // Which processor takes a newcomer.
-ghost use Rattle.std.specs.Prelude.{◌≡◌, ◌≤◌, length, Some};
+ghost use Rattle.std.specs.Prelude.{◌≡◌, Some};
 ghost use Rattle.seating.specs.Admission.{seen_with};
 ghost use Rattle.rack.specs.Choices.{better_of, Chosen};
 
@@ -12,16 +12,16 @@ use tasks::Task;
 
 /// A processor that would take the newcomer, as a preference sees it, with its trial.
 #[derive(Drop)]
-pub struct Taker {
+pub(crate) struct Taker {
     pub(crate) contender: Contender,
     pub(crate) trial: Trial,
 }
 
 /// The best taker so far, and while there is none what the sheet is to say of each processor.
 #[derive(Drop)]
-pub struct Choice {
-    pub(crate) best: Option<Taker>,
-    pub(crate) entries: ArrayVec<u32, 16>,
+struct Choice {
+    best: Option<Taker>,
+    entries: ArrayVec<u32, 16>,
 }
 
 impl Taker {
@@ -43,6 +43,7 @@ impl Choice {
         ensures best { self.new ≡ record self.old { best = Some (better_of (P.before preference.old) self.old.best taker) } }
         ensures same { P.before preference.new ≡ P.before preference.old }
     {
+        // No `is_none_or`: tried, and of what the closure changes nothing is known after it.
         let is_better = match &self.best {
             Some(other) => preference.prefers(taker.contender, other.contender),
             None => true,
@@ -53,15 +54,14 @@ impl Choice {
     }
 }
 
-/// The preferred one of the processors that would take the newcomer.
+/// The preferred one of the processors that would take the newcomer, or what the sheet is to say of each.
 pub(crate) fn choose<J: Judge, P: Preference>(
-    processors: &[Processor],
+    processors: &ArrayVec<Processor, 16>,
     judge: &mut J,
     preference: &mut P,
     newcomer: Task,
-) -> Choice
-    requires { length processors.now ≤ 16 }
-    ensures chosen { Chosen (J.meaning judge.old) (P.before preference.old) processors.now newcomer (length processors.now) result }
+) -> Result<Taker, ArrayVec<u32, 16>>
+    ensures chosen { Chosen (J.meaning judge.old) (P.before preference.old) processors.now.items newcomer result }
     ensures judge { J.meaning judge.new ≡ J.meaning judge.old }
     ensures preference { P.before preference.new ≡ P.before preference.old }
 {
@@ -71,10 +71,11 @@ pub(crate) fn choose<J: Judge, P: Preference>(
     };
     // No chain: the judge and the preference change with each call.
     for (p, processor) in processors.iter().enumerate() {
-        match try_on(judge, processor.seats(), newcomer) {
+        match try_on(judge, processor, newcomer) {
             Ok(trial) => choice.offer(preference, Taker::new(p, processor, trial)),
             Err(declined) => choice.entries.push(declined.entry()),
         }
     }
-    choice
+    let Choice { best, entries } = choice;
+    best.ok_or(entries)
 }

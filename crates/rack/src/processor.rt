@@ -1,8 +1,8 @@
 // One processor of a rack.
-ghost use Rattle.std.specs.Prelude.{◌≡◌, ◌+◌, ◌-◌, ◌<◌, ◌≤◌, true, [], length, nat_le, slice_index_or};
+ghost use Rattle.std.specs.Prelude.{◌≡◌, ◌+◌, ◌-◌, ◌<◌, ◌≤◌, true, [], length, nat_le, slice_index_or, unwrap_or};
 ghost use Rattle.std.specs.List.{remove};
 ghost use Rattle.tasks.specs.Limits.{within_limits};
-ghost use Rattle.tasks.specs.Share.{share_of};
+ghost use Rattle.tasks.specs.Share.{share_answer};
 ghost use Rattle.seating.specs.Seats.{tasks_of, load_of, no_seat};
 
 use super::seat_table::SeatTable;
@@ -12,8 +12,8 @@ use std::marker::Model;
 use tasks::Task;
 
 /// The seats of a processor, each of a task within the limits, and the sum of their shares.
-#[derive(Default, Drop)]
-pub struct Processor {
+#[derive(Debug, Default, Drop)]
+pub(crate) struct Processor {
     table: SeatTable,
     load: u64,
 }
@@ -31,29 +31,26 @@ impl Model for Processor {
     ghost invariant = { λ p. (p.load ≡ load_of (tasks_of p.table)) × (all_within (tasks_of p.table) ≡ true) };
 }
 
-// The share of a task within the limits.
+// The share of a task, or 0 outside the limits, where it has none.
 fn share(task: Task) -> u64
-    requires { within_limits task ≡ true }
-    ensures value { result ≡ share_of task }
+    ensures value { result ≡ unwrap_or (share_answer task) 0 }
     ensures bound { result ≤ 1000000 }
 {
     task.share().map_or(0, u64::from)
 }
 
 // A load with the share of one task more.
-fn more(load: u64, task: Task) -> u64
-    requires limits { within_limits task ≡ true }
-    requires small { load ≤ 32000000 }
-    ensures { result ≡ load + share_of task }
+fn with_share(load: u64, task: Task) -> u64
+    requires { load ≤ 32000000 }
+    ensures { result ≡ load + unwrap_or (share_answer task) 0 }
 {
     load + share(task)
 }
 
 // A load without the share of a task.
-fn less(load: u64, task: Task) -> u64
-    requires limits { within_limits task ≡ true }
-    requires part { share_of task ≤ load }
-    ensures { result ≡ load - share_of task }
+fn without_share(load: u64, task: Task) -> u64
+    requires { unwrap_or (share_answer task) 0 ≤ load }
+    ensures { result ≡ load - unwrap_or (share_answer task) 0 }
 {
     load - share(task)
 }
@@ -90,7 +87,7 @@ impl Processor {
         ensures { SeatedWith newcomer trial.now.instants.items self.old self.new }
     {
         self.table.seat(newcomer, trial);
-        self.load = more(self.load, newcomer);
+        self.load = with_share(self.load, newcomer);
     }
 
     /// The seat at `at` leaves, and its share.
@@ -100,7 +97,7 @@ impl Processor {
         ensures value { result ≡ slice_index_or self.old at no_seat }
     {
         let seat = self.table.remove(at);
-        self.load = less(self.load, seat.task);
+        self.load = without_share(self.load, seat.task);
         seat
     }
 }

@@ -1,10 +1,12 @@
 // The questions about a rack. They change nothing.
 ghost use Rattle.std.specs.Prelude.{◌≡◌};
+ghost use Rattle.seating.specs.Questions.{Shows};
 ghost use Rattle.book.specs.Book.{finds, loads, lists};
 ghost use Rattle.rack.specs.Spots.{SpotOn};
 ghost use Rattle.rack.specs.Table.{Sound};
 ghost use Rattle.rack.specs.Steps.{Step, shown};
 
+use super::processor::Processor;
 use super::rack::Rack;
 use judges::Judge;
 use preferences::Preference;
@@ -20,22 +22,28 @@ impl<J: Judge, P: Preference> Rack<J, P> {
         Some((self.processors[p].seats()[at], p))
     }
 
-    /// The load of processor p: the sum of its tasks' shares, in millionths.
+    /// The load of processor p: the sum of its tasks' shares, in millionths. It is refused with 10 where there is no processor p.
     pub fn load(&self, p: usize) -> Result<u64, QuestionRefusal>
         ensures step { Step J.meaning P.before self.now (loads p result) self.now }
         ensures sound { Sound self.now.lists }
     {
-        let processor = self.processors.get(p).ok_or(QuestionRefusal::NoProcessor)?;
-        Ok(processor.load())
+        Ok(self.processor(p)?.load())
     }
 
-    /// The taken seats of processor p, lent.
+    /// The taken seats of processor p, in priority order, lent. It is refused with 10 where there is no processor p.
     pub fn seats(&self, p: usize) -> Result<&[Seat], QuestionRefusal>
         ensures step { Step J.meaning P.before self.now (lists p (shown result)) self.now }
         ensures sound { Sound self.now.lists }
     {
-        let processor = self.processors.get(p).ok_or(QuestionRefusal::NoProcessor)?;
-        Ok(processor.seats())
+        Ok(self.processor(p)?.seats())
+    }
+
+    // The processor of this number.
+    fn processor(&self, p: usize) -> Result<&Processor, QuestionRefusal>
+        ensures shows { Shows self.now.lists p (shown result) }
+        ensures sound { Sound self.now.lists }
+    {
+        self.processors.get(p).ok_or(QuestionRefusal::NoProcessor)
     }
 
     // Where a task of this number sits: its processor and its place there.

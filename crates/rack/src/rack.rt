@@ -11,13 +11,15 @@ use seating::MakeRefusal;
 use std::marker::Model;
 
 /// A rack of 1 to 16 processors, with the judge and the preference that it was made with.
-#[derive(Drop)]
+// No `==`: at a type with a model it cannot be derived, and nobody compares racks.
+#[derive(Debug, Drop)]
 pub struct Rack<J, P> {
     pub(crate) processors: ArrayVec<Processor, 16>,
     pub(crate) judge: J,
     pub(crate) preference: P,
 }
 
+// Each call says `Sound` again: callers see a rack's value alone, and a proof inside the value would stand in every equation of two racks.
 impl<J, P> Model for Rack<J, P> {
     ghost use Rattle.rack.specs.Table.{Table, Sound};
 
@@ -32,19 +34,19 @@ impl<J, P> Model for Rack<J, P> {
 fn may_have(processors: usize) -> bool
     ensures { result ≡ (nat_le 1 processors && nat_le processors 16) }
 {
-    1 <= processors && processors <= 16
+    (1..=16).contains(&processors)
 }
 
 // So many processors with all seats free.
-fn free(processors: usize) -> ArrayVec<Processor, 16>
-    requires { processors ≤ 16 }
-    ensures { result.items ≡ replicate processors [] }
+fn free_processors(count: usize) -> ArrayVec<Processor, 16>
+    requires { count ≤ 16 }
+    ensures { result.items ≡ replicate count [] }
 {
-    let mut free = ArrayVec::new();
-    for _ in 0..processors {
-        free.push(Processor::default());
+    let mut processors = ArrayVec::new();
+    for _ in 0..count {
+        processors.push(Processor::default());
     }
-    free
+    processors
 }
 
 impl<J: Judge, P: Preference> Rack<J, P> {
@@ -62,7 +64,7 @@ impl<J: Judge, P: Preference> Rack<J, P> {
             });
         }
         Ok(Rack {
-            processors: free(processors),
+            processors: free_processors(processors),
             judge,
             preference,
         })

@@ -1,5 +1,5 @@
 // The seats of one processor.
-ghost use Rattle.std.specs.Prelude.{◌≡◌, ◌<◌, ◌≤◌, [], length, slice_index_or};
+ghost use Rattle.std.specs.Prelude.{◌≡◌, ◌<◌, ◌≤◌, length, slice_index_or};
 ghost use Rattle.std.specs.List.{insert, remove};
 ghost use Rattle.seating.specs.Seats.{no_seat};
 
@@ -9,8 +9,9 @@ use std::marker::Model;
 use tasks::{Task, Ticks};
 
 /// At most 32 seats: the first `taken` of a fixed array hold tasks.
-#[derive(Drop)]
-pub struct SeatTable {
+// An array and its count, and no ArrayVec: the fixed array of a processor is a rule of the project.
+#[derive(Debug, Default, Drop)]
+pub(crate) struct SeatTable {
     seats: [Seat; 32],
     taken: usize,
 }
@@ -51,6 +52,7 @@ impl SeatTable {
     }
 
     /// Another kept instant for the seat at `at`.
+    // That the place is taken is asked at each call: a place that carried it would have to carry the table.
     pub(crate) fn renew(&mut self, at: usize, instant: Ticks)
         requires { at < length self.old }
         ensures { self.new ≡ renewed self.old at instant }
@@ -86,21 +88,5 @@ impl SeatTable {
         self.seats[at..self.taken].rotate_left(1);
         self.taken -= 1;
         seat
-    }
-}
-
-// By hand: a seat has no default of its own.
-impl Default for SeatTable {
-    ghost is_default = { λ t. t ≡ [] };
-
-    fn default() -> SeatTable {
-        let free = Seat {
-            task: Task::default(),
-            instant: Ticks::default(),
-        };
-        SeatTable {
-            seats: [free; 32],
-            taken: 0,
-        }
     }
 }

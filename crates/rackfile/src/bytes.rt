@@ -40,35 +40,35 @@ impl<'a> Reader<'a> {
         BytesFault::Cut { place: self.whole }
     }
 
+    // A field of N bytes.
+    fn take<const N: usize>(&mut self) -> Result<[u8; N], BytesFault>
+        ensures { Reads (λ bytes. bytes) self.old self.new result (field self.old.whole (take_part N self.old.left.now)) }
+    {
+        let (bytes, rest) = self.left.split_first_chunk::<N>().ok_or(self.cut())?;
+        self.left = rest;
+        Ok(*bytes)
+    }
+
     // One byte.
     pub(crate) fn byte(&mut self) -> Result<u8, BytesFault>
         ensures { Reads (λ b. b) self.old self.new result (field self.old.whole (take_byte self.old.left.now)) }
     {
-        let [b, rest @ ..] = self.left else {
-            return Err(self.cut());
-        };
-        self.left = rest;
-        Ok(*b)
+        let [b] = self.take::<1>()?;
+        Ok(b)
     }
 
     // A number of 32 bits, the most significant byte first.
     pub(crate) fn word(&mut self) -> Result<u32, BytesFault>
         ensures { Reads (λ n. n) self.old self.new result (field self.old.whole (take_word self.old.left.now)) }
     {
-        let [a, b, c, d, rest @ ..] = self.left else {
-            return Err(self.cut());
-        };
-        self.left = rest;
-        Ok(u32::from_be_bytes([*a, *b, *c, *d]))
+        Ok(u32::from_be_bytes(self.take::<4>()?))
     }
 
     // So many bytes, as a part of the input.
     pub(crate) fn part(&mut self, n: usize) -> Result<&'a [u8], BytesFault>
         ensures { Reads (λ part. part.now) self.old self.new result (field self.old.whole (take_part n self.old.left.now)) }
     {
-        let Some((part, rest)) = self.left.split_at_checked(n) else {
-            return Err(self.cut());
-        };
+        let (part, rest) = self.left.split_at_checked(n).ok_or(self.cut())?;
         self.left = rest;
         Ok(part)
     }

@@ -80,7 +80,7 @@ pub(crate) struct Header {
 fn has_mark(r: u8, a: u8, k: u8) -> bool
     ensures { result ≡ is_mark r a k }
 {
-    r == b'R' && a == b'A' && k == b'K'
+    [r, a, k] == *b"RAK"
 }
 
 fn has_version(high: u8, low: u8) -> bool
@@ -89,11 +89,11 @@ fn has_version(high: u8, low: u8) -> bool
     u16::from_be_bytes([high, low]) == 1
 }
 
-// Whether a rack may have so many processors.
+// Whether a rack may have so many processors: the format's rule, apart from the rack's own, which this crate does not know.
 fn is_rack_size(n: u8) -> bool
     ensures { result ≡ processors_allowed n }
 {
-    1 <= n && n <= 16
+    (1..=16).contains(&n)
 }
 
 // The count of records in its two bytes, the more significant first.
@@ -104,33 +104,34 @@ fn count_from(more: u8, less: u8) -> u16
 }
 
 // The fault of a header that is cut short, field by field: a chain of `if`s, since the first wrong field decides.
-fn short_fault(whole: usize, s: &[u8]) -> FileFault
-    requires { length s.now < 9 }
-    ensures { header_fault whole s.now ≡ Some result }
+// Apart from `read_header`, which takes a whole header by one pattern: a rule of the project.
+fn short_fault(whole: usize, header: &[u8]) -> FileFault
+    requires { length header.now < 9 }
+    ensures { header_fault whole header.now ≡ Some result }
 {
     let cut = FileFault::from(BytesFault::Cut { place: whole });
-    if s.len() < 3 {
+    if header.len() < 3 {
         return cut;
     }
-    if !has_mark(s[0], s[1], s[2]) {
+    if !has_mark(header[0], header[1], header[2]) {
         return FileFault::Mark;
     }
-    if s.len() < 5 {
+    if header.len() < 5 {
         return cut;
     }
-    if !has_version(s[3], s[4]) {
+    if !has_version(header[3], header[4]) {
         return FileFault::Version;
     }
-    if s.len() < 6 {
+    if header.len() < 6 {
         return cut;
     }
-    if Policy::try_from(char::from(s[5])).is_err() {
+    if Policy::try_from(char::from(header[5])).is_err() {
         return FileFault::Policy;
     }
-    if s.len() < 7 {
+    if header.len() < 7 {
         return cut;
     }
-    if !is_rack_size(s[6]) {
+    if !is_rack_size(header[6]) {
         return FileFault::Processors;
     }
     cut
@@ -161,9 +162,7 @@ fn read_header(reader: &mut Reader<'_>) -> Result<Header, FileFault>
     if !has_version(*high, *low) {
         return Err(FileFault::Version);
     }
-    let Ok(policy) = Policy::try_from(char::from(*letter)) else {
-        return Err(FileFault::Policy);
-    };
+    let policy = Policy::try_from(char::from(*letter)).map_err(|_| FileFault::Policy)?;
     if !is_rack_size(*processors) {
         return Err(FileFault::Processors);
     }
@@ -184,7 +183,7 @@ fn read_records<'a>(
     ensures { ReadsRecords reader.old reader.new result (read_records reader.old.whole count reader.old.left.now) }
 {
     let mut all = Vec::new(alloc);
-    for _i in 0..count {
+    for _ in 0..count {
         let one = record(reader)?;
         all.push(one)?;
     }
@@ -196,12 +195,12 @@ pub fn read_file<'a>(alloc: Global, input: &'a [u8]) -> Result<RackFile<'a>, Rea
     ensures { FileRead input.now result }
 {
     let mut reader = Reader::over(input)?;
-    let head = read_header(&mut reader)?;
-    let records = read_records(alloc, &mut reader, head.count)?;
+    let header = read_header(&mut reader)?;
+    let records = read_records(alloc, &mut reader, header.count)?;
     reader.end()?;
     Ok(RackFile {
-        policy: head.policy,
-        processors: head.processors,
+        policy: header.policy,
+        processors: header.processors,
         records,
     })
 }

@@ -7,11 +7,11 @@ use crate::bytes::Reader;
 use crate::fault::RecordFault;
 use crate::record::Record;
 
-// Whether a byte may stand in a label.
+// Whether a byte may stand in a label. The bounds in numbers, and no `is_ascii_graphic`: so the format says them.
 fn is_printable(b: u8) -> bool
     ensures { result ≡ printable b }
 {
-    0x21 <= b && b <= 0x7e
+    (0x21..=0x7e).contains(&b)
 }
 
 // The index of the first byte that may not.
@@ -21,11 +21,11 @@ fn first_bad_byte(label: &[u8]) -> Option<usize>
     label.iter().position(|b| !is_printable(*b))
 }
 
-// Whether a label may be so long.
+// Whether a label may be so long. A rule apart from `is_rack_size`: that the two bounds are equal is chance.
 fn is_label_length(n: u8) -> bool
     ensures { result ≡ length_allowed n }
 {
-    1 <= n && n <= 16
+    (1..=16).contains(&n)
 }
 
 // A label and its place.

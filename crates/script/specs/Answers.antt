@@ -1,5 +1,5 @@
 -- What each call is answered.
-use Rattle.std.specs.Prelude.{Some, None, Option}
+use Rattle.std.specs.Prelude.{Some, None, Ok, Err, Option}
 use Rattle.tasks.specs.Demand.{demand_answer}
 use Rattle.tasks.specs.Share.{share_answer}
 use Rattle.judges.specs.Meanings.{least_good_point, least_good_instant}
@@ -13,8 +13,8 @@ use Rattle.script.specs.Calls.{SeenRun, Seen, judges, demands, shares, rehearses
 
 -- how the run ends, unless there is a cause to refuse it
 abbrev pub unless_refused : Option Refusal → Outcome → Answer
-unless_refused None o = answer.Ended o
-unless_refused (Some refusal) o = answer.Refused refusal
+unless_refused None o = answer.Run (Ok o)
+unless_refused (Some refusal) o = answer.Run (Err refusal)
 
 abbrev pub run_answer : SeenRun → Answer
 run_answer run = unless_refused (first_cause run.tasks run.horizon.0 run.releases) (outcome run.tasks run.horizon.0 run.releases)

@@ -1,12 +1,12 @@
 -- The lines that are written back.
-use Rattle.std.specs.Prelude.{ℕ, Bool, cond, ◌||◌, List, [], ◌++◌, length, Some, None, codes, decimal, Option, ◌==◌, slice_index}
+use Rattle.std.specs.Prelude.{ℕ, Bool, cond, ◌||◌, List, [], ◌++◌, length, Some, None, Ok, Err, codes, decimal, Option, ◌==◌, slice_index}
 use Rattle.std.specs.Option.{option_map}
 use Rattle.machine.specs.declared.state.Miss.{Miss}
-use Rattle.machine.specs.Refusals.{number_of}
+use Rattle.machine.specs.Refusals.{refusal_text}
 use Rattle.traces.specs.Texts.{number_text}
 use Rattle.traces.specs.Traces.{trace_text}
 use Rattle.script.specs.declared.answers.Answer.{Answer}
-use Rattle.script.specs.declared.answers.Answer.TheVariants.{Instants, Demand, Share, Ended, Refused}
+use Rattle.script.specs.declared.answers.Answer.TheVariants.{Instants, Demand, Share, Run}
 use Rattle.script.specs.Calls.{Seen, judges, demands, shares, rehearses, traces, called}
 use Rattle.script.specs.Answers.{answer_to}
 
@@ -19,8 +19,8 @@ abbrev pub answer_text : Answer → List ℕ
 answer_text (Instants first second) = number_text (option_map (λ t. t.0) first) ++ (codes " " ++ number_text (option_map (λ t. t.0) second))
 answer_text (Demand w) = number_text (option_map (λ u. u.0) w)
 answer_text (Share s) = number_text s
-answer_text (Ended o) = end_text o.miss o.busy.0
-answer_text (Refused refusal) = codes "R" ++ decimal (number_of refusal)
+answer_text (Run (Ok o)) = end_text o.miss o.busy.0
+answer_text (Run (Err refusal)) = refusal_text refusal
 
 -- an empty line, or one that begins with `#`, is no call
 abbrev pub passed_over : List ℕ → Bool

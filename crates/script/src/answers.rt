@@ -17,20 +17,15 @@ pub enum Answer {
     Demand(Option<Units>),
     /// A share.
     Share(Option<u32>),
-    /// How a run of the machine ended.
-    Ended(Outcome),
-    /// The first cause to refuse the run.
-    Refused(Refusal),
+    /// How a run of the machine ended, or the first cause to refuse it.
+    Run(Result<Outcome, Refusal>),
 }
 
 // How the run of the machine ends, or the first cause to refuse it.
 fn run_answer(run: &Rehearsal) -> Answer
     ensures { result ≡ run_answer (seen_run run.now) }
 {
-    match rehearse(run.tasks.as_slice(), run.horizon, run.releases.as_slice()) {
-        Ok(outcome) => Answer::Ended(outcome),
-        Err(refusal) => Answer::Refused(refusal),
-    }
+    Answer::Run(rehearse(run.tasks.as_slice(), run.horizon, run.releases.as_slice()))
 }
 
 /// What the call is answered.
@@ -39,9 +34,9 @@ pub fn answer_for(call: &Call) -> Answer
 {
     match call {
         Call::Judge { task, above } => {
-            let first = Points.ask(*task, above.as_slice());
-            let second = StepUp.ask(*task, above.as_slice());
-            Answer::Instants(first, second)
+            let points = Points.ask(*task, above.as_slice());
+            let step_up = StepUp.ask(*task, above.as_slice());
+            Answer::Instants(points, step_up)
         }
         Call::Demand { task, at, above } => Answer::Demand(demand_at(*task, above.as_slice(), *at)),
         Call::Share { task } => Answer::Share(task.share()),

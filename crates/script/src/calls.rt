@@ -92,7 +92,7 @@ pub fn split_word(line: &str) -> Option<(&str, &str)>
     line.split_once(' ')
 }
 
-/// The call that a line stands for.
+/// The call that a line stands for; unreadable where it stands for none.
 #[tactic(auto, using(crate::proofs::Wording::called_none, crate::proofs::Wording::called_unknown))]
 pub fn read(alloc: Global, line: &str) -> Result<Call, NoCall>
     ensures { Reads seen_as (called line.now) result }

@@ -1,6 +1,5 @@
 // The lines that are written back.
 ghost use Rattle.std.specs.Prelude.{◌≡◌, IfOk, Some, string_bytes};
-ghost use Rattle.std.specs.Option.{option_map};
 ghost use Rattle.script.specs.Calls.{seen_as, called};
 ghost use Rattle.script.specs.Lines.{lines_before, end_text, answer_text, call_text, passed_over, reply_text};
 
@@ -9,16 +8,8 @@ use crate::calls::{Call, read};
 use crate::no_call::NoCall;
 use machine::Outcome;
 use std::alloc::{AllocError, Global};
-use std::fmt;
-use tasks::Ticks;
+use std::fmt::{self, Display};
 use traces::{OrDash, trace_text};
-
-// An instant, or a dash for none.
-fn instant(at: Option<Ticks>) -> OrDash
-    ensures { result.0 ≡ option_map (λ t. t.0) at }
-{
-    OrDash(at.map(|ticks| u64::from(ticks.0)))
-}
 
 // How a run ended.
 #[derive(Clone, Copy)]
@@ -28,11 +19,11 @@ impl fmt::Display for Ending {
     ghost output = { λ e. Some (end_text e.0.miss e.0.busy.0) };
 
     fn fmt<W: fmt::Write>(&self, f: &mut fmt::Formatter<W>) -> fmt::Result {
-        let busy = self.0.busy.0;
+        let busy = self.0.busy;
         match self.0.miss {
             Some(miss) => {
                 let place = miss.place;
-                let instant = miss.instant.0;
+                let instant = miss.instant;
                 write!(f, "miss {place} {instant} {busy}")
             }
             None => write!(f, "none {busy}"),
@@ -45,27 +36,15 @@ impl fmt::Display for Answer {
 
     fn fmt<W: fmt::Write>(&self, f: &mut fmt::Formatter<W>) -> fmt::Result {
         match *self {
-            Answer::Instants(first, second) => {
-                let first = instant(first);
-                let second = instant(second);
-                write!(f, "{first} {second}")
+            Answer::Instants(points, step_up) => {
+                let points = OrDash(points);
+                let step_up = OrDash(step_up);
+                write!(f, "{points} {step_up}")
             }
-            Answer::Demand(demand) => {
-                let demand = OrDash(demand.map(|units| units.0));
-                write!(f, "{demand}")
-            }
-            Answer::Share(share) => {
-                let share = OrDash(share.map(u64::from));
-                write!(f, "{share}")
-            }
-            Answer::Ended(outcome) => {
-                let ending = Ending(outcome);
-                write!(f, "{ending}")
-            }
-            Answer::Refused(refusal) => {
-                let number = refusal.number();
-                write!(f, "R{number}")
-            }
+            Answer::Demand(demand) => OrDash(demand).fmt(f),
+            Answer::Share(share) => OrDash(share).fmt(f),
+            Answer::Run(Ok(outcome)) => Ending(outcome).fmt(f),
+            Answer::Run(Err(refusal)) => refusal.fmt(f),
         }
     }
 }

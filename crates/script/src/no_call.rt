@@ -1,8 +1,9 @@
 // Why nothing was read.
 ghost use Rattle.std.specs.Prelude.{◌≡◌};
+ghost use Rattle.std.specs.declared.alloc.AllocError.{AllocError};
 ghost use Rattle.script.specs.declared.no_call.NoCall.TheVariants.{Memory};
 
-use std::alloc::AllocError;
+use std::alloc::{AllocError, AllocFailed};
 
 /// Why a text gave nothing.
 #[derive(Clone, Copy, Debug, PartialEq, Eq)]
@@ -18,5 +19,13 @@ impl From<AllocError> for NoCall {
 
     fn from(error: AllocError) -> NoCall {
         NoCall::Memory(error)
+    }
+}
+
+impl<T: Drop> From<AllocFailed<T>> for NoCall {
+    ghost from_gives = { λ _ r. (e : AllocError) × (r ≡ Memory e) };
+
+    fn from(error: AllocFailed<T>) -> NoCall {
+        NoCall::Memory(error.into())
     }
 }

@@ -10,7 +10,7 @@ use machine::Release;
 use std::alloc::{AllocError, Global};
 use tasks::{Task, Ticks};
 
-// What two numbers in turn stand for.
+// What two numbers in turn stand for. A trait of our own: tasks and releases are of other crates, so `From` of a pair cannot stand here.
 pub(crate) trait FromPair: Sized + Drop {
     ghost meaning: { ℕ → ℕ → Self };
 
@@ -33,6 +33,7 @@ impl FromPair for Release {
 
     fn from_pair(place: u32, instant: u32) -> Release {
         Release {
+            // `as`: a usize has no `From<u32>`, and `try_from` would add an error that cannot come.
             place: place as usize,
             instant: Ticks(instant),
         }
@@ -56,6 +57,7 @@ fn pairs<T: FromPair>(alloc: Global, numbers: &[u32]) -> Result<Vec<T>, AllocErr
 fn split_pairs(count: u32, rest: &[u32]) -> Option<(&[u32], &[u32])>
     ensures { MatchOption result (length rest.now < count + count) (λ p. IsSplitAt rest.now (count + count) p.0.now p.1.now) }
 {
+    // `as`, as in a release's place.
     rest.split_at_checked(2 * count as usize)
 }
 
@@ -66,11 +68,9 @@ pub(crate) fn counted<T: FromPair>(
 ) -> Result<(Vec<T>, &[u32]), NoCall>
     ensures { Reads (λ x. (vec_items x.0, x.1.now)) (counted T.meaning numbers.now) result }
 {
-    let [count, rest @ ..] = numbers else {
-        return Err(NoCall::Unreadable);
-    };
-    let (these, behind) = split_pairs(*count, rest).ok_or(NoCall::Unreadable)?;
-    Ok((pairs(alloc, these)?, behind))
+    let (count, rest) = numbers.split_first().ok_or(NoCall::Unreadable)?;
+    let (list, behind) = split_pairs(*count, rest).ok_or(NoCall::Unreadable)?;
+    Ok((pairs(alloc, list)?, behind))
 }
 
 // `N A1 B1 .. AN BN`, and nothing behind it.

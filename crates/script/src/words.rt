@@ -1,6 +1,5 @@
 // The words that calls begin with.
-ghost use Rattle.std.specs.Prelude.{◌≡◌, ◌≢◌, MatchResult};
-ghost use Rattle.script.specs.declared.no_call.NoCall.TheVariants.{Unreadable};
+ghost use Rattle.script.specs.NoCalls.{Named};
 ghost use Rattle.script.specs.Names.{name_of};
 
 use crate::no_call::NoCall;
@@ -19,9 +18,9 @@ pub enum Word {
 impl FromStr for Word {
     type Err = NoCall;
 
-    fn from_str(text: &str) -> Result<Word, NoCall>
-        ensures { MatchResult result (λ w. text.now ≡ name_of w) (λ e. (e ≡ Unreadable) × ((w : Word) → text.now ≢ name_of w)) }
-    {
+    ghost from_str_gives = { λ text r. Named name_of text r };
+
+    fn from_str(text: &str) -> Result<Word, NoCall> {
         match text {
             "judge" => Ok(Word::Judge),
             "demand" => Ok(Word::Demand),

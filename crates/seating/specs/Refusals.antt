@@ -1,5 +1,5 @@
 -- The numbers of the refusals.
-use Rattle.std.specs.Prelude.{◌≡◌, ℕ}
+use Rattle.std.specs.Prelude.{◌≡◌, ℕ, List, ◌++◌, codes, decimal}
 use Rattle.seating.specs.declared.refusal.MakeRefusal.TheVariants.{ProcessorCount}
 use Rattle.seating.specs.declared.refusal.AdmitRefusal.TheVariants.{ShortSheet, NumberZero, BadPeriod, BadWork, AlreadySeated, AllFull, NoTaker}
 use Rattle.seating.specs.declared.refusal.WithdrawRefusal.TheVariants.{NotSeated}
@@ -18,6 +18,10 @@ number_of (Admitting AllFull) = 7
 number_of (Admitting NoTaker) = 8
 number_of (Withdrawing NotSeated) = 9
 number_of (Asking NoProcessor) = 10
+
+-- how a refusal is shown: `R` and the number
+abbrev pub refused_text : Refused → List ℕ
+refused_text refused = codes "R" ++ decimal (number_of refused)
 
 -- a number stands for one refusal at most
 abbrev pub NumbersDiffer : Type 0

@@ -31,7 +31,7 @@ pub fn has_room(seats: &[Seat]) -> bool
 fn is_above(seated: Task, newcomer: Task) -> bool
     ensures { result ≡ stands_above seated newcomer }
 {
-    seated.period.0 <= newcomer.period.0
+    seated.period <= newcomer.period
 }
 
 /// How many seats stand above the newcomer.

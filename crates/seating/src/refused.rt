@@ -1,9 +1,10 @@
 // The refusals of all calls as one.
-ghost use Rattle.std.specs.Prelude.{◌≡◌};
+ghost use Rattle.std.specs.Prelude.{◌≡◌, Some};
 ghost use Rattle.seating.specs.declared.refused.Refused.TheVariants.{Making, Admitting, Withdrawing, Asking};
-ghost use Rattle.seating.specs.Refusals.{number_of};
+ghost use Rattle.seating.specs.Refusals.{number_of, refused_text};
 
 use super::refusal::{AdmitRefusal, MakeRefusal, QuestionRefusal, WithdrawRefusal};
+use std::fmt;
 
 /// A refusal, with the call that it belongs to.
 #[derive(Clone, Copy, Debug, PartialEq, Eq)]
@@ -32,7 +33,17 @@ impl Refused {
     }
 }
 
-// A conversion for each enum, so that `?` carries it: a generic one would say no less, and needs a trait.
+/// `R` and the number.
+impl fmt::Display for Refused {
+    ghost output = { λ refused. Some (refused_text refused) };
+
+    fn fmt<W: fmt::Write>(&self, f: &mut fmt::Formatter<W>) -> fmt::Result {
+        let number = self.number();
+        write!(f, "R{number}")
+    }
+}
+
+// A conversion for each enum: a generic one would need a trait of the four, and say no more.
 impl From<MakeRefusal> for Refused {
     ghost from_gives = { λ refusal refused. refused ≡ Making refusal };
 

@@ -32,7 +32,7 @@ impl Task {
     pub fn has_period(&self) -> bool
         ensures { result ≡ period_allowed self.now }
     {
-        1 <= self.period.0 && self.period.0 <= 1_000_000
+        (1..=1_000_000).contains(&self.period.0)
     }
 
     /// Whether the work is from 1 unit to what the processor does in a period.
@@ -40,7 +40,7 @@ impl Task {
         ensures { result ≡ work_allowed self.now }
     {
         let most = Speed::one().units_in(self.period);
-        Units(1) <= self.work && self.work <= most
+        (Units(1)..=most).contains(&self.work)
     }
 
     /// Whether the task keeps the limits.

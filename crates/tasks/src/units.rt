@@ -1,14 +1,36 @@
 // Work in units, time in ticks, and a processor's speed, by which alone the one becomes the other.
-ghost use Rattle.std.specs.Prelude.{◌≡◌, ◌≤◌};
+ghost use Rattle.std.specs.Prelude.{◌≡◌, ◌≤◌, Some, decimal};
 ghost use Rattle.tasks.specs.Units.{units_in, ticks_for, one_a_tick, in_32_bits, ticks_answer};
+
+use std::fmt;
 
 /// Work.
 #[derive(Clone, Copy, Debug, Default, PartialEq, Eq, PartialOrd, Ord)]
 pub struct Units(pub u64);
 
+/// The bare number: what stands around it says the unit.
+impl fmt::Display for Units {
+    ghost output = { λ units. Some (decimal units.0) };
+
+    fn fmt<W: fmt::Write>(&self, f: &mut fmt::Formatter<W>) -> fmt::Result {
+        let units = self.0;
+        write!(f, "{units}")
+    }
+}
+
 /// Time: an instant, or a length of time.
 #[derive(Clone, Copy, Debug, Default, PartialEq, Eq, PartialOrd, Ord)]
 pub struct Ticks(pub u32);
+
+/// The bare number, as with work.
+impl fmt::Display for Ticks {
+    ghost output = { λ ticks. Some (decimal ticks.0) };
+
+    fn fmt<W: fmt::Write>(&self, f: &mut fmt::Formatter<W>) -> fmt::Result {
+        let ticks = self.0;
+        write!(f, "{ticks}")
+    }
+}
 
 /// How many units a processor does in a tick.
 #[derive(Clone, Copy, Debug, PartialEq, Eq)]

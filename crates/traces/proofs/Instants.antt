@@ -57,8 +57,8 @@ stepped ts rs k old new (Some (Went busy)) s l f m = grind (arith, s, m)
 
 -- the states and the lines of a run, one instant on
 module _ (ts : List Task) (rs : List Release) where
-  pub states_first : (n : ℕ) → n ≡ length ts → length ts ≤ 33 → take n (replicate 33 Idle) ≡ states_at ts rs 0
-  states_first n e l = ap (λ k. take k (replicate 33 Idle)) e ∙ take-replicate (length ts) 33 Idle l
+  pub states_first : length ts ≤ 33 → take (length ts) (replicate 33 Idle) ≡ states_at ts rs 0
+  states_first l = take-replicate (length ts) 33 Idle l
 
   module _ (k : ℕ) (old new : List State) (is : old ≡ states_at ts rs k) where
     sized : length old ≡ length ts

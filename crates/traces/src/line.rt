@@ -7,7 +7,7 @@ use machine::State;
 use std::fmt;
 use tasks::Ticks;
 
-// Places, each behind a comma.
+// Places, each behind a comma. Apart from the states below: those are shown as `Doing`, which their slice does not hold.
 #[derive(Clone, Copy)]
 struct BehindCommas<'a>(&'a [usize]);
 
@@ -50,11 +50,7 @@ impl fmt::Display for Doing {
     fn fmt<W: fmt::Write>(&self, f: &mut fmt::Formatter<W>) -> fmt::Result {
         match self.0 {
             State::Idle => write!(f, "-"),
-            State::Waiting { left, deadline } => {
-                let units = left.0;
-                let ticks = deadline.0;
-                write!(f, "{units}@{ticks}")
-            }
+            State::Waiting { left, deadline } => write!(f, "{left}@{deadline}"),
         }
     }
 }
@@ -88,9 +84,9 @@ impl fmt::Display for Line<'_> {
     ghost output = { λ l. Some (line_text l.instant.0 l.released.now l.served l.states.now) };
 
     fn fmt<W: fmt::Write>(&self, f: &mut fmt::Formatter<W>) -> fmt::Result {
-        let instant = self.instant.0;
+        let instant = self.instant;
         let released = Places(self.released);
-        let served = OrDash(self.served.map(|place| place as u64));
+        let served = OrDash(self.served);
         let states = States(self.states);
         write!(
             f,

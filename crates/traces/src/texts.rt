@@ -1,19 +1,18 @@
-// A number in a line.
-ghost use Rattle.std.specs.Prelude.{Some};
-ghost use Rattle.traces.specs.Texts.{number_text};
+// A value in a line.
+ghost use Rattle.traces.specs.Texts.{or_dash};
 
 use std::fmt;
 
-/// A number, or a dash for none.
+/// A value, or a dash for none.
 #[derive(Clone, Copy, Debug, PartialEq, Eq)]
-pub struct OrDash(pub Option<u64>);
+pub struct OrDash<T>(pub Option<T>);
 
-impl fmt::Display for OrDash {
-    ghost output = { λ d. Some (number_text d.0) };
+impl<T: fmt::Display> fmt::Display for OrDash<T> {
+    ghost output = { λ d. or_dash T.output d.0 };
 
     fn fmt<W: fmt::Write>(&self, f: &mut fmt::Formatter<W>) -> fmt::Result {
-        match self.0 {
-            Some(number) => write!(f, "{number}"),
+        match &self.0 {
+            Some(value) => write!(f, "{value}"),
             None => write!(f, "-"),
         }
     }

@@ -3,7 +3,7 @@ ghost use Rattle.std.specs.Prelude.{◌≡◌, IfOk, string_bytes};
 ghost use Rattle.traces.specs.Traces.{lines_below, trace_text, Clear};
 
 use crate::line::Line;
-use crate::views::{end_of, released_places, served_place};
+use crate::views::{At, end_of};
 use machine::{Release, State, rehearse, step};
 use std::alloc::{AllocError, Global};
 use tasks::{Task, Ticks};
@@ -18,13 +18,15 @@ fn lines_to(
     requires { Clear tasks.now releases.now end.0 }
     ensures { IfOk result (λ s. string_bytes s ≡ lines_below tasks.now releases.now end.0) }
 {
+    // Room for 33, as the machine's own run has it: a run of more tasks is refused.
     let mut all = [State::Idle; 33];
-    let states = &mut all[0..tasks.len()];
+    let states = &mut all[..tasks.len()];
     let mut text = String::new(alloc);
     for at in 0..end.0 {
         let instant = Ticks(at);
-        let released = released_places(alloc, releases, tasks.len(), instant)?;
-        let served = served_place(releases, instant, states);
+        let now = At { releases, instant };
+        let released = now.released_places(alloc, tasks.len())?;
+        let served = now.served_place(states);
         // The instant goes by, since none before the end has a miss.
         let _ = step(tasks, releases, instant, states);
         let line = Line {
@@ -38,6 +40,7 @@ fn lines_to(
     Ok(text)
 }
 
+// It takes what the machine's `rehearse` takes, and no plan: a refused run has none, and is answered too.
 /// What stands before the answer to a trace: nothing where the run is refused, else a line for each instant before its end, all behind the end of a line.
 #[tactic(auto, using(crate::proofs::Instants::clear_to_end))]
 pub fn trace_text(

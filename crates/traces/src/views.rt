@@ -13,30 +13,7 @@ use tasks::Ticks;
 fn is_of(release: &Release, place: usize, instant: Ticks) -> bool
     ensures { result ≡ releases place instant.0 release.now }
 {
-    release.place == place && release.instant.0 == instant.0
-}
-
-// Whether the task at a place is released now.
-fn is_due(releases: &[Release], place: usize, instant: Ticks) -> bool
-    ensures { result ≡ due releases.now place instant.0 }
-{
-    releases
-        .iter()
-        .any(|release| is_of(release, place, instant))
-}
-
-// The places, of so many, that are released now.
-pub(crate) fn released_places(
-    alloc: Global,
-    releases: &[Release],
-    count: usize,
-    instant: Ticks,
-) -> Result<Vec<usize>, AllocError>
-    ensures { IfOk result (λ v. v.items ≡ released_below releases.now instant.0 count) }
-{
-    (0..count)
-        .filter(|place| is_due(releases, *place, instant))
-        .collect(alloc)
+    release.place == place && release.instant == instant
 }
 
 // Whether a task waits.
@@ -46,18 +23,52 @@ fn waits(state: State) -> bool
     matches!(state, State::Waiting { .. })
 }
 
-// Whether a task waits once the releases have come.
-fn will_wait(releases: &[Release], place: usize, instant: Ticks, state: State) -> bool
-    ensures { result ≡ (due releases.now place instant.0 || waiting state) }
-{
-    is_due(releases, place, instant) || waits(state)
+// An instant, and the releases of its run.
+#[derive(Clone, Copy)]
+pub(crate) struct At<'a> {
+    pub(crate) releases: &'a [Release],
+    pub(crate) instant: Ticks,
 }
 
-// The first place that waits once the releases have come.
-pub(crate) fn served_place(releases: &[Release], instant: Ticks, states: &[State]) -> Option<usize>
-    ensures { result ≡ position (λ w. due releases.now w.0 instant.0 || waiting w.1) (enumerate_from 0 states.now) }
-{
-    states.iter().enumerate().position(|(place, state)| will_wait(releases, place, instant, *state))
+impl At<'_> {
+    // Whether the task at a place is released now.
+    fn releases_at(self, place: usize) -> bool
+        ensures { result ≡ due self.entry.releases.now place self.entry.instant.0 }
+    {
+        self.releases
+            .iter()
+            .any(|release| is_of(release, place, self.instant))
+    }
+
+    // The places, of so many, that are released now.
+    pub(crate) fn released_places(
+        self,
+        alloc: Global,
+        count: usize,
+    ) -> Result<Vec<usize>, AllocError>
+        ensures { IfOk result (λ v. v.items ≡ released_below self.entry.releases.now self.entry.instant.0 count) }
+    {
+        (0..count)
+            .filter(|place| self.releases_at(*place))
+            .collect(alloc)
+    }
+
+    // Whether the task at a place waits once the releases have come.
+    fn will_wait(self, place: usize, state: State) -> bool
+        ensures { result ≡ (due self.entry.releases.now place self.entry.instant.0 || waiting state) }
+    {
+        self.releases_at(place) || waits(state)
+    }
+
+    // The first place that waits once the releases have come.
+    pub(crate) fn served_place(self, states: &[State]) -> Option<usize>
+        ensures { result ≡ position (λ w. due self.entry.releases.now w.0 self.entry.instant.0 || waiting w.1) (enumerate_from 0 states.now) }
+    {
+        states
+            .iter()
+            .enumerate()
+            .position(|(place, state)| self.will_wait(place, *state))
+    }
 }
 
 // The instant at which a run ends: that of its miss, or the horizon.

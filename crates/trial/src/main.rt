@@ -18,21 +18,26 @@ fn main(rt: HostRuntime) -> anyhow::Result<()> {
 #[cfg(test)]
 mod tests {
     use desk::read_answer;
+    use std::alloc::{AllocError, Global};
     use std::test::Fail;
+
+    // What so many bytes, all 0, are read as.
+    fn zeros_read(alloc: Global, bytes: usize) -> Result<String, AllocError> {
+        let zeros = vec![in alloc; 0u8; bytes]?;
+        read_answer(alloc, zeros.as_slice())
+    }
 
     // One byte too many, and as many as there may be.
     #[test]
     fn too_long_by_one(rt: HostRuntime) -> Result<(), Fail> {
-        let long = vec![in rt.alloc(); 0u8; 65537]?;
-        let text = read_answer(rt.alloc(), long.as_slice())?;
+        let text = zeros_read(rt.alloc(), 65537)?;
         assert_eq!(rt; text.as_str(), "bytes 11 65536");
         Ok(())
     }
 
     #[test]
     fn as_long_as_may_be(rt: HostRuntime) -> Result<(), Fail> {
-        let long = vec![in rt.alloc(); 0u8; 65536]?;
-        let text = read_answer(rt.alloc(), long.as_slice())?;
+        let text = zeros_read(rt.alloc(), 65536)?;
         assert_eq!(rt; text.as_str(), "file 13 0");
         Ok(())
     }

@@ -1,7 +1,6 @@
-use Rattle.std.proofs.Common.{◌≡◌, ◌++◌, map, length, take, vec_items, subst, arith, rules}
-use Rattle.std.proofs.lemmas.List.{get_or-map, length-map}
+use Rattle.std.proofs.Common.{◌≡◌, ◌++◌, map, take, vec_items, rules}
+use Rattle.std.proofs.lemmas.List.{get_or-map}
 use Rattle.rackfile.specs.Records.{seen_as, withdraws}
-use Rattle.desk.specs.Plays.{PlayedTo}
 use Rattle.desk.proofs.Records.{one_more}
 use Rattle.desk.proofs.plays.record_lines.Goals as goal
 
@@ -12,9 +11,3 @@ loop-i-preserved c =
     let e : vec_items c.extend_from_slice.new.self ≡ vec_items c.loop-i.text ++ take c.play_record-n.result c.play_record-n.new.out = search rules in
     one_more c.args.rack.now (map seen_as rs) i c.loop-i.rack c.loop-i.sheet c.loop-i.out (vec_items c.loop-i.text) c.play_record-n.result _ c.play_record-n.new.rack c.play_record-n.new.sheet c.play_record-n.new.out _
     c.loop-i.invariant c.play_record-n.ensures.played (get_or-map seen_as rs i _ (withdraws 0) c.loop-i-test.true) e
-
-pub returns : goal.returns
-returns c =
-    let rs = c.args.records.now in
-    let e : c.loop-i.i ≡ length (map seen_as rs) = omega (arith, length-map rs seen_as, c.loop-i-test.false) in
-    (c.loop-i.rack, c.loop-i.sheet, c.loop-i.out, subst (λ k. PlayedTo c.args.rack.now (map seen_as rs) k c.loop-i.rack c.loop-i.sheet c.loop-i.out (vec_items c.loop-i.text)) e c.loop-i.invariant)

@@ -9,21 +9,21 @@ pub returns : goal.returns
 returns g c =
     let r = c.args.rack.now in
     let b = r.lists in
-    let mean = g.J.Judge.meaning r.judge in
-    let bef = g.P.Preference.before r.preference in
+    let meaning = g.J.Judge.meaning r.judge in
+    let before = g.P.Preference.before r.preference in
     let judged = g.met.J.Judge.lawful r.judge in
     let preferred = g.met.P.Preference.lawful r.preference in
     let sound : Sound b = subst (λ (t : Table g.row.J.Denot g.row.P.Denot). Sound t.lists) c.rack.view_is c.rack.invariant in
     record {
       sound = sound;
       one_admission = λ x sheet.
-          let one = admits_some mean judged bef preferred b (λ q h. let k = sound.kept_well q h in (k.limits, k.instants)) x sheet in
+          let one = admits_some meaning judged before preferred b (λ q h. let k = sound.kept_well q h in (k.limits, k.instants)) x sheet in
           record {
             answer = one.0;
             sheet_after = one.1;
             lists_after = one.2;
             allowed = one.3;
-            only = λ a s d h. admits_once mean bef preferred b x sheet a one.0 s one.1 d one.2 h one.3;
+            only = λ a s d h. admits_once meaning before preferred b x sheet a one.0 s one.1 d one.2 h one.3;
           };
       one_withdrawal = λ k.
           let one = withdraws_some b k in

@@ -1,10 +1,9 @@
-use Rattle.std.proofs.Common.{◌-◌, length, string_bytes, ◌∙◌}
-use native.Mathlib.Nat.{sub-zero}
+use Rattle.std.proofs.Common.{string_bytes, ◌∙◌}
 use Rattle.traces.proofs.Instants.{states_first, states_next, lines_next}
 use Rattle.traces.proofs.tracing.lines_to.Goals as goal
 
 pub loop-at-init : goal.loop-at-init
-loop-at-init c = (states_first c.args.tasks.now c.args.releases.now (length c.args.tasks.now - 0) (sub-zero (length c.args.tasks.now)) c.requires.few, c.new-text.ensures.bytes)
+loop-at-init c = (states_first c.args.tasks.now c.args.releases.now c.requires.few, c.new-text.ensures.bytes)
 
 pub loop-at-preserved : goal.loop-at-preserved
 loop-at-preserved c =

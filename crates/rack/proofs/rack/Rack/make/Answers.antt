@@ -13,7 +13,7 @@ pub invariant_of-result : goal.invariant_of-result
 invariant_of-result g c =
     let m = c.args.processors in
     let ok = and_parts (leb 1 m) (leb m 16) (sym c.if-not-may_have.ensures) in
-    subst Sound (sym c.free.ensures) (free_sound m (leb-true 1 m ok.0) (leb-true m 16 ok.1))
+    subst Sound (sym c.free_processors.ensures) (free_sound m (leb-true 1 m ok.0) (leb-true m 16 ok.1))
 
 pub returns : goal.returns
 returns g c =
@@ -24,10 +24,10 @@ returns g c =
     record {
       some = some;
       few = few;
-      free = c.free.ensures;
-      processors = ap (length {A = List Seat}) c.free.ensures ∙ length-replicate m [];
+      free = c.free_processors.ensures;
+      processors = ap (length {A = List Seat}) c.free_processors.ensures ∙ length-replicate m [];
       judge = refl;
       preference = refl;
       whole_life = λ es run. whole_life g.J.Judge.meaning g.P.Preference.before g.met.J.Judge.lawful m some few c.args.judge c.args.preference es
-          (subst (λ (b : Lists). Run g.J.Judge.meaning g.P.Preference.before (record { lists = b; judge = c.args.judge; preference = c.args.preference }) es) c.free.ensures run);
+          (subst (λ (b : Lists). Run g.J.Judge.meaning g.P.Preference.before (record { lists = b; judge = c.args.judge; preference = c.args.preference }) es) c.free_processors.ensures run);
     }

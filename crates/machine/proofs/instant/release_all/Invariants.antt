@@ -1,6 +1,0 @@
-use Rattle.std.proofs.Common.{◌≡◌, take}
-use Rattle.machine.specs.Machine.{with_releases}
-use Rattle.machine.proofs.instant.release_all.Given as goal
-
-abbrev pub invariant-loop-release : goal.invariant-loop-release
-invariant-loop-release l = l.states ≡ with_releases (take l.release-index l.releases) l.instant.0 0 l.tasks l.initial.states
