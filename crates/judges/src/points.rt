@@ -22,11 +22,6 @@ impl Judge for Points {
     }
 }
 
-/// What the points judge gives is the least good scheduling point.
-pub fn points_are_least()
-    ensures { PointsAreLeast }
-{}
-
 // The least multiple of a period at or after `from`.
 #[tactic(auto, using(tasks::proofs::Roundings::rounding))]
 fn multiple_from(period: Ticks, from: Ticks) -> Ticks
@@ -76,3 +71,8 @@ impl Question<'_> {
         }
     }
 }
+
+/// What the points judge gives is the least good scheduling point.
+pub fn points_are_least()
+    ensures { PointsAreLeast }
+{}
