@@ -91,6 +91,10 @@ abbrev pub with_header : List ℕ → Option FileFault → Result File FileFault
 with_header input (Some f) = Err f
 with_header input None = with_records (length input) (policy_named (slice_index input 5)) (slice_index input 6) (read_records (length input) (count_in input) (drop 9 input))
 
--- the whole file: its length first, then its header, its records, and that nothing follows
+-- the whole file with the limit on the length left aside: its header, its records, and that nothing follows
+abbrev pub judging : List ℕ → Result File FileFault
+judging input = with_header input (header_fault (length input) input)
+
+-- the whole file: its length first
 abbrev pub reading : List ℕ → Result File FileFault
-reading input = cond (too_long input) (Err (fault.Record (Bytes TooLong))) (with_header input (header_fault (length input) input))
+reading input = cond (too_long input) (Err (fault.Record (Bytes TooLong))) (judging input)
