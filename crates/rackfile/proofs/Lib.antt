@@ -1,6 +1,6 @@
 pub mod Sequences
 pub mod Undoing
-pub mod Records
+pub mod RecordBytes
 pub mod Headers
 pub mod Standing
 pub mod Labels

@@ -13,7 +13,7 @@ use Rattle.rackfile.specs.Files.{File, header_fault, count_in, read_records, wit
 use Rattle.rackfile.specs.Format.{header_bytes, record_bytes, records_bytes, record_allowed, all_allowed, all_placed, Stands}
 use Rattle.rackfile.specs.Exact.{AreBytes, ReadsWhatStands, OneFile, NotBoth}
 use Rattle.rackfile.proofs.Undoing.{ok_same, Went, next_ok, cond-right, cond-wrong}
-use Rattle.rackfile.proofs.Records.{record_back, record_read}
+use Rattle.rackfile.proofs.RecordBytes.{record_back, record_read}
 use Rattle.rackfile.proofs.Headers.{header_back, header_read, count_read, named}
 
 pub record RecordsBack (at n : ℕ) (s : List ℕ) (vs : List Seen) (r : List ℕ) : Type 0 where

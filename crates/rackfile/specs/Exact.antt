@@ -2,8 +2,6 @@
 use Rattle.std.specs.Prelude.{◌≡◌, ℕ, ◌^◌, ◌<◌, ◌≤◌, true, ◌↔◌, List, length, take, drop, Ok, Err, Result, ◌≢◌, All}
 use Rattle.rackfile.specs.declared.fault.FileFault.{FileFault}
 use Rattle.rackfile.specs.declared.file.RackFile.{RackFile}
-use Rattle.rackfile.specs.declared.file.ReadError.{ReadError}
-use Rattle.rackfile.specs.declared.file.ReadError.TheVariants.{Fault, Memory}
 use Rattle.rackfile.specs.Records.{Seen, admits, withdraws}
 use Rattle.rackfile.specs.Files.{File, file_seen, processors_allowed, reading}
 use Rattle.rackfile.specs.Format.{file_bytes, all_allowed, all_placed, Stands}
@@ -12,11 +10,10 @@ use Rattle.rackfile.specs.Format.{file_bytes, all_allowed, all_placed, Stands}
 abbrev pub AreBytes : List ℕ → Type 0
 AreBytes input = All (λ b. b < 256) input
 
--- what was read: a file that the bytes stand for, or the fault; where there is no memory, nothing is said
-abbrev pub FileRead : List ℕ → Result RackFile ReadError → Type 0
+-- what was read: a file that the bytes stand for, or the fault
+abbrev pub FileRead : List ℕ → Result RackFile FileFault → Type 0
 FileRead input (Ok f) = Stands input (file_seen f)
-FileRead input (Err (Fault f)) = reading input ≡ Err f
-FileRead input (Err (Memory e)) = Unit {0}
+FileRead input (Err f) = reading input ≡ Err f
 
 -- bytes are read as a file exactly when they stand for it
 abbrev pub ReadsWhatStands : Type 0

@@ -1,6 +1,5 @@
 -- The file, read from the front.
-use Rattle.std.specs.Prelude.{◌≡◌, ℕ, zero, suc, ◌+◌, ◌*◌, Bool, cond, not, ◌&&◌, List, [], ◌∷◌, map, length, drop, is_some, Some, None, Ok, Err, vec_items, Option, Result, Vec, ◌==◌, nat_le, nat_lt, slice_index}
-use Rattle.std.specs.declared.alloc.Global.{Global}
+use Rattle.std.specs.Prelude.{◌≡◌, ℕ, zero, suc, ◌+◌, ◌*◌, Bool, cond, not, ◌&&◌, List, [], ◌∷◌, length, drop, is_some, Some, None, Ok, Err, Option, Result, ◌==◌, nat_le, nat_lt, slice_index}
 use Rattle.preferences.specs.declared.policy.Policy.{Policy}
 use Rattle.preferences.specs.Policies.{policy_named}
 use Rattle.rackfile.specs.declared.fault.BytesFault.TheVariants.{TooLong, Cut, Trailing}
@@ -8,14 +7,11 @@ use Rattle.rackfile.specs.declared.fault.RecordFault.{RecordFault}
 use Rattle.rackfile.specs.declared.fault.RecordFault.TheVariants.{Bytes}
 use Rattle.rackfile.specs.declared.fault.FileFault.{FileFault}
 use Rattle.rackfile.specs.declared.fault.FileFault.TheVariants as fault
-use Rattle.rackfile.specs.declared.record.Record.{Record}
 use Rattle.rackfile.specs.declared.bytes.Reader.{Reader}
 use Rattle.rackfile.specs.declared.file.Header.{Header}
 use Rattle.rackfile.specs.declared.file.RackFile.{RackFile}
-use Rattle.rackfile.specs.declared.file.ReadError.{ReadError}
-use Rattle.rackfile.specs.declared.file.ReadError.TheVariants as error
 use Rattle.rackfile.specs.Reading.{place_in, too_long}
-use Rattle.rackfile.specs.Records.{Seen, seen_as, next, read_record}
+use Rattle.rackfile.specs.Records.{Seen, next, read_record}
 
 -- the letters RAK
 abbrev pub is_mark : ℕ → ℕ → ℕ → Bool
@@ -66,11 +62,6 @@ abbrev pub read_records : ℕ → ℕ → List ℕ → Result (List Seen × List
 read_records whole zero s = Ok ([], s)
 read_records whole (suc n) s = next (read_record whole s) (λ x. next (read_records whole n x.1) (λ y. Ok (x.0 ∷ y.0, y.1)))
 
-abbrev pub ReadsRecords : Reader → Reader → Result (Vec Record Global) ReadError → Result (List Seen × List ℕ) RecordFault → Type 0
-ReadsRecords old new (Ok all) m = (m ≡ Ok (map seen_as (vec_items all), new.left.now)) × (new.whole ≡ old.whole)
-ReadsRecords old new (Err (error.Fault f)) m = (e : RecordFault) × (m ≡ Err e) × (f ≡ fault.Record e)
-ReadsRecords old new (Err (error.Memory e)) m = Unit {0}
-
 -- what a file says
 pub record File : Type 0 where
   pub policy : Policy
@@ -78,7 +69,7 @@ pub record File : Type 0 where
   pub records : List Seen
 
 abbrev pub file_seen : RackFile → File
-file_seen f = record { policy = f.policy; processors = f.processors; records = map seen_as (vec_items f.records) }
+file_seen f = record { policy = f.policy; processors = f.processors; records = f.records }
 
 -- the records behind a header that is right, and nothing behind them
 abbrev pub with_records : ℕ → Option Policy → ℕ → Result (List Seen × List ℕ) RecordFault → Result File FileFault

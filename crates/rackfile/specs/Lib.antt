@@ -2,5 +2,6 @@ pub mod Faults
 pub mod Reading
 pub mod Records
 pub mod Files
+pub mod Taking
 pub mod Format
 pub mod Exact

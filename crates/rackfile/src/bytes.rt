@@ -6,7 +6,7 @@ ghost use Rattle.rackfile.specs.Reading.{Opens, Reads, Ends, place_in, field, ta
 use crate::fault::BytesFault;
 
 // What is left of an input, and the length of the whole input.
-#[derive(Clone, Copy)]
+#[derive(Clone, Copy, Debug)]
 pub(crate) struct Reader<'a> {
     pub(crate) whole: usize,
     pub(crate) left: &'a [u8],

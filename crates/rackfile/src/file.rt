@@ -1,72 +1,20 @@
 // The third layer: the file.
 ghost use Rattle.std.specs.Prelude.{◌≡◌, ◌+◌, ◌*◌, ◌<◌, length, Some};
-ghost use Rattle.std.specs.declared.alloc.AllocError.{AllocError};
-ghost use Rattle.rackfile.specs.declared.fault.RecordFault.TheVariants.{Bytes};
-ghost use Rattle.rackfile.specs.declared.fault.FileFault.TheVariants.{Record};
-ghost use Rattle.rackfile.specs.declared.file.ReadError.TheVariants.{Fault, Memory};
-ghost use Rattle.rackfile.specs.Files.{is_mark, is_version, processors_allowed, header_fault, ReadsHeader, ReadsRecords, read_records};
+ghost use Rattle.rackfile.specs.Files.{is_mark, is_version, processors_allowed, header_fault, ReadsHeader};
 ghost use Rattle.rackfile.specs.Exact.{FileRead};
 
 use crate::bytes::Reader;
-use crate::fault::{BytesFault, FileFault, RecordFault};
-use crate::reading::record;
-use crate::record::Record;
+use crate::fault::{BytesFault, FileFault};
+use crate::records::Records;
 use preferences::Policy;
-use std::alloc::{AllocError, AllocFailed, Global};
 
-/// What a file says: the policy, the number of processors, and the records in their order.
-#[derive(Debug, PartialEq, Eq, Drop)]
+/// What a file says: the policy, the number of processors, and the records in their order, which are taken off one at a time.
+// No `==`: its records have a model, where it cannot be derived, and nobody compares files.
+#[derive(Debug, Drop)]
 pub struct RackFile<'a> {
     pub policy: Policy,
     pub processors: u8,
-    pub records: Vec<Record<'a>>,
-}
-
-/// Why no file was read: something is wrong with it, or there is no memory for its records.
-#[derive(Clone, Copy, Debug, PartialEq, Eq)]
-pub enum ReadError {
-    Fault(FileFault),
-    Memory(AllocError),
-}
-
-impl From<BytesFault> for ReadError {
-    ghost from_gives = { λ e r. r ≡ Fault (Record (Bytes e)) };
-
-    fn from(e: BytesFault) -> ReadError {
-        ReadError::Fault(e.into())
-    }
-}
-
-impl From<RecordFault> for ReadError {
-    ghost from_gives = { λ e r. r ≡ Fault (Record e) };
-
-    fn from(e: RecordFault) -> ReadError {
-        ReadError::Fault(e.into())
-    }
-}
-
-impl From<FileFault> for ReadError {
-    ghost from_gives = { λ e r. r ≡ Fault e };
-
-    fn from(e: FileFault) -> ReadError {
-        ReadError::Fault(e)
-    }
-}
-
-impl From<AllocError> for ReadError {
-    ghost from_gives = { λ e r. r ≡ Memory e };
-
-    fn from(e: AllocError) -> ReadError {
-        ReadError::Memory(e)
-    }
-}
-
-impl<T: Drop> From<AllocFailed<T>> for ReadError {
-    ghost from_gives = { λ _ r. (e : AllocError) × (r ≡ Memory e) };
-
-    fn from(e: AllocFailed<T>) -> ReadError {
-        ReadError::Memory(e.into())
-    }
+    pub records: Records<'a>,
 }
 
 // What the header says of the file.
@@ -174,29 +122,13 @@ fn read_header(reader: &mut Reader<'_>) -> Result<Header, FileFault>
     })
 }
 
-// So many records.
-fn read_records<'a>(
-    alloc: Global,
-    reader: &mut Reader<'a>,
-    count: u16,
-) -> Result<Vec<Record<'a>>, ReadError>
-    ensures { ReadsRecords reader.old reader.new result (read_records reader.old.whole count reader.old.left.now) }
-{
-    let mut all = Vec::new(alloc);
-    for _ in 0..count {
-        let one = record(reader)?;
-        all.push(one)?;
-    }
-    Ok(all)
-}
-
-/// Reads a file: what the bytes stand for, or the first thing wrong from the front.
-pub fn read_file<'a>(alloc: Global, input: &'a [u8]) -> Result<RackFile<'a>, ReadError>
+/// Reads a file: what the bytes stand for, or the first thing wrong from the front. Nothing is allocated.
+pub fn read_file(input: &[u8]) -> Result<RackFile<'_>, FileFault>
     ensures { FileRead input.now result }
 {
     let mut reader = Reader::over(input)?;
     let header = read_header(&mut reader)?;
-    let records = read_records(alloc, &mut reader, header.count)?;
+    let records = Records::judge(&mut reader, header.count)?;
     reader.end()?;
     Ok(RackFile {
         policy: header.policy,
