@@ -1,3 +1,4 @@
 pub mod Outcomes
 pub mod Playing
 pub mod Beginning
+pub mod Lines

@@ -5,7 +5,9 @@ mod fault;
 mod opening;
 mod outcome;
 mod play;
+mod theorems;
 
 pub use fault::{PlayerFault, RefusedRecord, Stop};
 pub use opening::{Play, begin, write_fault};
 pub use play::play_record;
+pub use theorems::{front_decides, one_text};

@@ -11,7 +11,7 @@ use Rattle.rack.specs.Steps.{Step, Run}
 use Rattle.rack.proofs.Passing.{passing}
 use Rattle.rack.proofs.Soundness.{free_sound, admitted_sound, withdrawn_sound}
 
-moment : (b : Lists) → Sound b → AtMoment b
+pub moment : (b : Lists) → Sound b → AtMoment b
 moment b sound = at_moment b sound.kept_well sound.differ (λ x entries h. (passing b x entries h).limits)
 
 module _ {J P : Type 0} (meaning : J → Meaning) (before : P → Relation) where
