@@ -20,7 +20,7 @@ use Rattle.playing.specs.Playing.{admit_line, withdraw_line}
 abbrev pub IsMapped : {A R : Type 0} → (R → Refused) → Result A R → Result A Refused → Type 0
 IsMapped up r q = MatchResult r (λ x. q ≡ Ok x) (λ e. IsErrAnd q (λ d. d ≡ up e))
 
-small_in_line : (n : ℕ) → n < 2 ^ 32 → in_line n ≡ n
+pub small_in_line : (n : ℕ) → n < 2 ^ 32 → in_line n ≡ n
 small_in_line n h = cond-true (ltb n (2 ^ 32)) n 4294967295 (lt-ltb n (2 ^ 32) h)
 
 module _ {J P : Type 0} (meaning : J → Meaning) (before : P → Relation) (r s : Table J P) where

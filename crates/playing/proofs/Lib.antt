@@ -1,3 +1,4 @@
 pub mod Carrying
 pub mod Fronts
+pub mod Readings
 pub mod OnlyText

@@ -1,6 +1,5 @@
 -- Each input has exactly one text.
-use Rattle.std.proofs.Common.{◌≡◌, ℕ, suc, ◌≤◌, Bool, true, false, not, cond, eqb, ltb, List, [], ◌∷◌, ◌++◌, length, get_or, drop, is_some, Some, None, Ok, Err, Option, Result, sym, refl, ap, ◌∙◌, subst, arith}
-use Rattle.std.proofs.lemmas.Bool.{and_parts, leb-true}
+use Rattle.std.proofs.Common.{◌≡◌, ℕ, suc, List, [], ◌∷◌, ◌++◌, Ok, Err, Result, refl, ap, ◌∙◌, subst}
 use Rattle.tasks.specs.declared.units.Ticks.{Ticks}
 use Rattle.tasks.specs.declared.units.Units.{Units}
 use Rattle.tasks.specs.Tasks.{task_of}
@@ -9,7 +8,7 @@ use Rattle.judges.specs.Meant.{points_lawful}
 use Rattle.preferences.specs.declared.policy.Policy.{Policy}
 use Rattle.preferences.specs.declared.policy.Policy.TheVariants.{First, Best, Worst}
 use Rattle.preferences.specs.Laws.{PreferenceLaws}
-use Rattle.preferences.specs.Policies.{policy_before, policy_named}
+use Rattle.preferences.specs.Policies.{policy_before}
 use Rattle.preferences.specs.FitLaws.{first_laws, best_laws, worst_laws}
 use Rattle.seating.specs.declared.refusal.AdmitRefusal.{AdmitRefusal}
 use Rattle.seating.specs.declared.refusal.WithdrawRefusal.{WithdrawRefusal}
@@ -21,13 +20,12 @@ use Rattle.rack.specs.Table.{Sound}
 use Rattle.rack.proofs.Living.{moment}
 use Rattle.rack.proofs.Soundness.{free_sound, admitted_sound, withdrawn_sound}
 use Rattle.rackfile.specs.declared.fault.FileFault.{FileFault}
-use Rattle.rackfile.specs.declared.fault.RecordFault.{RecordFault}
 use Rattle.rackfile.specs.Records.{Seen, admits, withdraws}
 use Rattle.rackfile.specs.Files.{File, reading}
-use Rattle.lines.specs.Texts as texts
 use Rattle.lines.specs.Texts.{line_text}
+use Rattle.playing.proofs.Readings.{rack_size}
 use Rattle.playing.specs.Playing.{admit_line, withdraw_line}
-use Rattle.playing.specs.Lines.{LineFirst, Lines, blank_sheet, TextOf, PlayerText, OneText}
+use Rattle.playing.specs.Lines.{Lines, blank_sheet, TextOf, OneText}
 
 pub policy_lawful : (policy : Policy) → PreferenceLaws (policy_before policy)
 policy_lawful First = first_laws
@@ -71,7 +69,9 @@ module _ (policy : Policy) where
 
 one_of_reading : (input : List ℕ) (r : Result File FileFault) → reading input ≡ r → One (List ℕ) (TextOf r)
 one_of_reading input (Err e) is = record { it = _; is = refl; only = λ text h. h }
-one_of_reading input (Ok f) is = ?
+one_of_reading input (Ok f) is =
+    let size = rack_size input f is in
+    one_text_of f.policy f.records (new_book f.processors) (free_sound f.processors size.some size.few) blank_sheet 0
 
 pub one_text : OneText
 one_text input = one_of_reading input (reading input) refl
