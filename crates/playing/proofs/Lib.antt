@@ -2,3 +2,4 @@ pub mod Carrying
 pub mod Fronts
 pub mod Readings
 pub mod OnlyText
+pub mod Midway

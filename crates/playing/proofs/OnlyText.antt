@@ -1,5 +1,5 @@
 -- Each input has exactly one text.
-use Rattle.std.proofs.Common.{◌≡◌, ℕ, suc, List, [], ◌∷◌, ◌++◌, Ok, Err, Result, refl, ap, ◌∙◌, subst}
+use Rattle.std.proofs.Common.{◌≡◌, ℕ, ◌+◌, List, [], ◌∷◌, ◌++◌, Ok, Err, Result, refl, ap, ◌∙◌, subst}
 use Rattle.tasks.specs.declared.units.Ticks.{Ticks}
 use Rattle.tasks.specs.declared.units.Units.{Units}
 use Rattle.tasks.specs.Tasks.{task_of}
@@ -44,26 +44,26 @@ module _ (policy : Policy) where
       let a = one.it.0 in
       let s = one.it.1 in
       let next = after least_good_point b (call.admits x sheet a s) in
-      let later = one_text_of rs next (admitted_sound b sound least_good_point points_lawful (policy_before policy) x sheet a s next one.is) s (suc index) in
+      let later = one_text_of rs next (admitted_sound b sound least_good_point points_lawful (policy_before policy) x sheet a s next one.is) s (index + 1) in
       record {
         it = line_text (admit_line index label a) ++ later.it;
         is = (a, s, record { right = one.is; rest = later.it; whole = refl; goes_on = later.is });
         only = λ text l.
             let same = one.only (l.0, l.1) l.2.right in
-            let on = subst (λ (z : Result (ℕ × Ticks) AdmitRefusal × List ℕ). Lines policy (after least_good_point b (call.admits x sheet z.0 z.1)) z.1 (suc index) rs l.2.rest) same l.2.goes_on in
+            let on = subst (λ (z : Result (ℕ × Ticks) AdmitRefusal × List ℕ). Lines policy (after least_good_point b (call.admits x sheet z.0 z.1)) z.1 (index + 1) rs l.2.rest) same l.2.goes_on in
             l.2.whole ∙ ap (λ (z : Result (ℕ × Ticks) AdmitRefusal × List ℕ). line_text (admit_line index label z.0) ++ l.2.rest) same ∙ ap (λ (t : List ℕ). line_text (admit_line index label a) ++ t) (later.only l.2.rest on);
       }
   one_text_of (withdraws number ∷ rs) b sound sheet index =
       let one = (right_once b sound).withdrawal number in
       let a = one.it in
       let next = after least_good_point b (call.withdraws number a) in
-      let later = one_text_of rs next (withdrawn_sound b sound number a next one.is) sheet (suc index) in
+      let later = one_text_of rs next (withdrawn_sound b sound number a next one.is) sheet (index + 1) in
       record {
         it = line_text (withdraw_line index number a) ++ later.it;
         is = (a, record { right = one.is; rest = later.it; whole = refl; goes_on = later.is });
         only = λ text l.
             let same = one.only l.0 l.1.right in
-            let on = subst (λ (z : Result (ℕ × Units × Ticks) WithdrawRefusal). Lines policy (after least_good_point b (call.withdraws number z)) sheet (suc index) rs l.1.rest) same l.1.goes_on in
+            let on = subst (λ (z : Result (ℕ × Units × Ticks) WithdrawRefusal). Lines policy (after least_good_point b (call.withdraws number z)) sheet (index + 1) rs l.1.rest) same l.1.goes_on in
             l.1.whole ∙ ap (λ (z : Result (ℕ × Units × Ticks) WithdrawRefusal). line_text (withdraw_line index number z) ++ l.1.rest) same ∙ ap (λ (t : List ℕ). line_text (withdraw_line index number a) ++ t) (later.only l.1.rest on);
       }
 

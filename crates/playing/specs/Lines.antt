@@ -1,5 +1,5 @@
 -- The player's text by the book: what is written for every input. No rack and no table is named here.
-use Rattle.std.specs.Prelude.{◌≡◌, ℕ, suc, ◌↔◌, List, [], ◌∷◌, ◌++◌, take, replicate, Ok, Err, Result}
+use Rattle.std.specs.Prelude.{◌≡◌, ℕ, ◌+◌, ◌↔◌, List, [], ◌∷◌, ◌++◌, take, replicate, Ok, Err, Result}
 use Rattle.tasks.specs.declared.units.Ticks.{Ticks}
 use Rattle.tasks.specs.declared.units.Units.{Units}
 use Rattle.tasks.specs.Tasks.{task_of}
@@ -32,10 +32,10 @@ abbrev pub Lines : Policy → Book → List ℕ → ℕ → List Seen → List �
 Lines policy b sheet index [] text = text ≡ []
 Lines policy b sheet index (admits number work period label place ∷ rs) text =
     (answer : Result (ℕ × Ticks) AdmitRefusal) × (sheet' : List ℕ)
-    × LineFirst policy b (call.admits (task_of number work period) sheet answer sheet') (admit_line index label answer) (λ b' rest. Lines policy b' sheet' (suc index) rs rest) text
+    × LineFirst policy b (call.admits (task_of number work period) sheet answer sheet') (admit_line index label answer) (λ b' rest. Lines policy b' sheet' (index + 1) rs rest) text
 Lines policy b sheet index (withdraws number ∷ rs) text =
     (answer : Result (ℕ × Units × Ticks) WithdrawRefusal)
-    × LineFirst policy b (call.withdraws number answer) (withdraw_line index number answer) (λ b' rest. Lines policy b' sheet (suc index) rs rest) text
+    × LineFirst policy b (call.withdraws number answer) (withdraw_line index number answer) (λ b' rest. Lines policy b' sheet (index + 1) rs rest) text
 
 -- The sheet that the player begins with.
 abbrev pub blank_sheet : List ℕ
