@@ -1,5 +1,5 @@
--- A whole file: what its bytes stand for, the answers that are right, and the lines.
-use Rattle.std.proofs.Common.{◌≡◌, ℕ, zero, suc, ◌<◌, true, [], ◌∷◌, get_or, Some, Ok, Err, refl, inr, arith, lit≤}
+-- Whole inputs: of the sample what its bytes stand for, the answers that are right, and the lines.
+use Rattle.std.proofs.Common.{◌≡◌, ℕ, zero, suc, ◌<◌, true, List, [], ◌∷◌, get_or, drop, replicate, Some, Ok, Err, Result, codes, sym, refl, subst, inr, arith, lit≤}
 use Rattle.std.specs.List.{AllByRecursion}
 use Rattle.std.specs.Fmt.{digits}
 use Rattle.std.proofs.lemmas.Bool.{both_ways, lt-ltb}
@@ -10,13 +10,20 @@ use Rattle.tasks.specs.Instants.{least}
 use Rattle.tasks.specs.Demand.{FitsAt}
 use Rattle.judges.specs.Meanings.{least_good_point}
 use Rattle.judges.specs.Meant.{points_lawful}
+use Rattle.preferences.specs.declared.policy.Policy.TheVariants.{First}
 use Rattle.preferences.specs.Fits.{first_fit}
 use Rattle.seating.specs.declared.refusal.AdmitRefusal.TheVariants.{NoTaker}
 use Rattle.seating.specs.Seats.{Lists, no_seat}
 use Rattle.seating.specs.Admission.{WouldTake, as_seen, said, on, Entry}
 use Rattle.book.specs.Book.{Book, admits, withdraws, Right}
 use Rattle.book.proofs.Moments.{kept_fits}
-use Rattle.cases.specs.Cases.{Settled, whole, seat, blank_sheet, written_sheet}
+use Rattle.rackfile.specs.declared.fault.FileFault.{FileFault}
+use Rattle.rackfile.specs.Records as asks
+use Rattle.rackfile.specs.Files.{File}
+use Rattle.rackfile.specs.Format.{Stands}
+use Rattle.rackfile.proofs.Standing.{reads}
+use Rattle.playing.specs.Lines.{Lines, blank_sheet, TextOf, PlayerText}
+use Rattle.cases.specs.Cases.{Settled, whole, sample, sample_text, seat}
 use Rattle.cases.proofs.Few.{of_two, only_at}
 
 abbrev saw : Task
@@ -48,6 +55,10 @@ big_unfit g = both_ways _ (points_lawful.complete big (saw ∷ cam ∷ []) refl 
 big_unfit_1 : FitsAt (drl ∷ big ∷ []) 1 → ⊥
 unfolding up least
 big_unfit_1 g = both_ways _ (points_lawful.complete big (drl ∷ []) refl refl g.0) g.1
+
+-- the sheet after the refusal: the newcomer itself has no good instant on either processor
+abbrev written_sheet : List ℕ
+written_sheet = 4 ∷ 4 ∷ replicate 14 0
 
 -- the book before each record
 abbrev book_0 : Book
@@ -124,6 +135,41 @@ right_3 = inr (
 right_4 : Right least_good_point first_fit book_3 (withdraws 2 (Ok (0, record { 0 = 4 }, record { 0 = 10 })))
 right_4 = record { at = 1; sits = record { there = lit≤ tt; within = lit≤ tt; number = refl }; its_work = refl; its_period = refl; seats = refl }
 
-pub all_sampled : AllByRecursion Settled whole
+-- what the bytes stand for
+abbrev file : File
+file = record {
+  policy = First;
+  processors = 2;
+  records = asks.admits 1 2 5 (codes "saw") 23 ∷ asks.admits 2 4 10 (codes "cam") 40 ∷ asks.admits 3 3 10 (codes "drl") 57 ∷ asks.admits 4 8 10 (codes "big") 74 ∷ asks.withdraws 2 ∷ [];
+}
+
+file_stands : Stands sample file
+file_stands = record { bytes = refl; short = lit≤ tt; processors = refl; few = lit≤ tt; allowed = refl; places = refl }
+
+-- the lines from each record on
+from_4 : Lines First book_3 written_sheet 4 (drop 4 file.records) (codes "4 W 2 0\n")
+unfolding digits
+from_4 = (Ok (0, record { 0 = 4 }, record { 0 = 10 }), record { right = right_4; rest = []; whole = refl; goes_on = refl })
+
+from_3 : Lines First book_3 blank_sheet 3 (drop 3 file.records) (codes "3 A big R8\n4 W 2 0\n")
+unfolding digits
+from_3 = (Err NoTaker, written_sheet, record { right = right_3; rest = _; whole = refl; goes_on = from_4 })
+
+from_2 : Lines First book_2 blank_sheet 2 (drop 2 file.records) (codes "2 A drl 1 10\n3 A big R8\n4 W 2 0\n")
+unfolding least digits
+from_2 = (Ok (1, record { 0 = 10 }), blank_sheet, record { right = right_2; rest = _; whole = refl; goes_on = from_3 })
+
+from_1 : Lines First book_1 blank_sheet 1 (drop 1 file.records) (codes "1 A cam 0 10\n2 A drl 1 10\n3 A big R8\n4 W 2 0\n")
 unfolding up least digits
-all_sampled = ((record { bytes = refl; short = lit≤ tt; processors = refl; few = lit≤ tt; allowed = refl; places = refl }, (right_0, refl, (right_1, refl, (right_2, refl, (right_3, refl, (right_4, refl, tt)))))), tt)
+from_1 = (Ok (0, record { 0 = 10 }), blank_sheet, record { right = right_1; rest = _; whole = refl; goes_on = from_2 })
+
+from_0 : Lines First book_0 blank_sheet 0 file.records sample_text
+unfolding up least digits
+from_0 = (Ok (0, record { 0 = 5 }), blank_sheet, record { right = right_0; rest = _; whole = refl; goes_on = from_1 })
+
+sample_played : PlayerText sample sample_text
+sample_played = subst (λ (r : Result File FileFault). TextOf r sample_text) (sym (reads sample file file_stands)) from_0
+
+pub all_sampled : AllByRecursion Settled whole
+unfolding digits
+all_sampled = (sample_played, (refl, (refl, (refl, (refl, (refl, tt))))))

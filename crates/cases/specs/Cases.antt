@@ -1,8 +1,7 @@
 -- Worked cases, and what each must give.
-use Rattle.std.specs.Prelude.{◌≡◌, ℕ, zero, suc, Bool, true, if◌then◌else◌, List, [], ◌∷◌, ◌++◌, map, replicate, Some, None, Ok, Err, codes, Option, Result}
+use Rattle.std.specs.Prelude.{◌≡◌, ℕ, zero, suc, Bool, true, if◌then◌else◌, List, [], ◌∷◌, ◌++◌, replicate, Some, None, codes, Option}
 use Rattle.tasks.specs.declared.task.Task.{Task}
 use Rattle.tasks.specs.declared.units.Ticks.{Ticks}
-use Rattle.tasks.specs.declared.units.Units.{Units}
 use Rattle.tasks.specs.Tasks.{task_of}
 use Rattle.tasks.specs.Share.{share_answer}
 use Rattle.tasks.specs.Instants.{point}
@@ -11,22 +10,12 @@ use Rattle.machine.specs.declared.state.Release.{Release}
 use Rattle.machine.specs.declared.state.Outcome.{Outcome}
 use Rattle.machine.specs.Machine.{outcome}
 use Rattle.machine.specs.Lawful.{lawful}
-use Rattle.preferences.specs.declared.policy.Policy.{Policy}
-use Rattle.preferences.specs.declared.policy.Policy.TheVariants.{First}
 use Rattle.preferences.specs.Laws.{Relation}
 use Rattle.preferences.specs.Fits.{first_fit, best_fit, worst_fit}
-use Rattle.preferences.specs.Policies.{policy_before}
 use Rattle.seating.specs.declared.seat.Seat.{Seat}
-use Rattle.seating.specs.declared.refusal.AdmitRefusal.{AdmitRefusal}
-use Rattle.seating.specs.declared.refusal.AdmitRefusal.TheVariants.{NoTaker}
-use Rattle.seating.specs.declared.refusal.WithdrawRefusal.{WithdrawRefusal}
 use Rattle.seating.specs.Seats.{Lists}
 use Rattle.seating.specs.Admission.{Preferred}
-use Rattle.book.specs.Book.{Book, Event, admits, withdraws, new_book, after, Right}
-use Rattle.rackfile.specs.Records as records
-use Rattle.rackfile.specs.Format.{Stands}
-use Rattle.lines.specs.Texts.{line_text}
-use Rattle.playing.specs.Playing.{admit_line, withdraw_line}
+use Rattle.playing.specs.Lines.{PlayerText}
 
 -- work C and period T
 abbrev pub task : ℕ → ℕ → Task
@@ -45,29 +34,6 @@ misses place instant busy = record { miss = Some (record { place = place; instan
 abbrev pub misses_none : ℕ → Outcome
 misses_none busy = record { miss = None; busy = record { 0 = busy } }
 
--- a record of a file with the answer to it and the line written for it; an admission also with the sheet before and after
-pub data Played : Type 0 where
-  admitted : (number work period : ℕ) (label : List ℕ) (place : ℕ) (sheet : List ℕ) → Result (ℕ × Ticks) AdmitRefusal → (sheet' line : List ℕ) → Played
-  withdrawn : (number : ℕ) → Result (ℕ × Units × Ticks) WithdrawRefusal → (line : List ℕ) → Played
-
-abbrev pub record_of : Played → records.Seen
-record_of (admitted number work period label place sheet a sheet' line) = records.admits number work period label place
-record_of (withdrawn number a line) = records.withdraws number
-
-abbrev pub event_of : Played → Event
-event_of (admitted number work period label place sheet a sheet' line) = admits (task_of number work period) sheet a sheet'
-event_of (withdrawn number a line) = withdraws number a
-
--- its line is the one of its answer
-abbrev pub Lined : ℕ → Played → Type 0
-Lined index (admitted number work period label place sheet a sheet' line) = line_text (admit_line index label a) ≡ line
-Lined index (withdrawn number a line) = line_text (withdraw_line index number a) ≡ line
-
--- record by record: the answer is right by the book just before it, and the line is its own
-abbrev pub AllPlayed : Relation → Book → ℕ → List Played → Type 0
-AllPlayed before b index [] = Unit {0}
-AllPlayed before b index (p ∷ ps) = Right least_good_point before b (event_of p) × Lined index p × AllPlayed before (after least_good_point b (event_of p)) (suc index) ps
-
 pub data Case : Type 0 where
   -- a task below others: the points judge's instant and the step-up judge's
   judged : Task → List Task → (points steps : Option Ticks) → Case
@@ -79,8 +45,8 @@ pub data Case : Type 0 where
   rehearsed : List Task → (horizon : ℕ) → List Release → Outcome → Case
   -- lists of seats, a newcomer and a preference: the processor that takes it
   placed : Lists → Task → Relation → (processor : ℕ) → Case
-  -- a file's bytes, its policy and number of processors: what is played, with the points judge
-  played : List ℕ → Policy → (processors : ℕ) → List Played → Case
+  -- an input's bytes: what the player writes for them
+  played : List ℕ → (text : List ℕ) → Case
 
 -- those from 1 to n that pass a test
 abbrev pub those : (ℕ → Bool) → ℕ → List ℕ
@@ -94,7 +60,7 @@ Settled (shared x share) = share_answer x ≡ share
 Settled (pointed x above points) = those (point x above) x.period.0 ≡ points
 Settled (rehearsed ts horizon rs o) = (lawful ts horizon rs ≡ true) × (outcome ts horizon rs ≡ o)
 Settled (placed b x before p) = Preferred before b x p
-Settled (played bytes policy processors ps) = Stands bytes (record { policy = policy; processors = processors; records = map record_of ps }) × AllPlayed (policy_before policy) (new_book processors) 0 ps
+Settled (played bytes text) = PlayerText bytes text
 
 -- the multiples of 100, 150 and 350 below 350
 abbrev pub multiples : List Release
@@ -157,27 +123,23 @@ sample =
     ∷ 65 ∷ 0 ∷ 0 ∷ 0 ∷ 4 ∷ 0 ∷ 0 ∷ 0 ∷ 8 ∷ 0 ∷ 0 ∷ 0 ∷ 10 ∷ 3 ∷ 98 ∷ 105 ∷ 103
     ∷ 87 ∷ 0 ∷ 0 ∷ 0 ∷ 2 ∷ []
 
--- the sheet before, and after the refusal: the newcomer itself has no good instant on either processor
-abbrev pub blank_sheet : List ℕ
-blank_sheet = replicate 16 0
+-- and its lines: three tasks get their seats, a fourth fits on neither processor, and the second leaves
+abbrev pub sample_text : List ℕ
+sample_text = codes "0 A saw 0 5\n1 A cam 0 10\n2 A drl 1 10\n3 A big R8\n4 W 2 0\n"
 
-abbrev pub written_sheet : List ℕ
-written_sheet = 4 ∷ 4 ∷ replicate 14 0
-
-abbrev pub end : List ℕ
-end = 10 ∷ []
-
-abbrev pub sample_plays : List Played
-sample_plays =
-    admitted 1 2 5 (codes "saw") 23 blank_sheet (Ok (0, record { 0 = 5 })) blank_sheet (codes "0 A saw 0 5" ++ end)
-    ∷ admitted 2 4 10 (codes "cam") 40 blank_sheet (Ok (0, record { 0 = 10 })) blank_sheet (codes "1 A cam 0 10" ++ end)
-    ∷ admitted 3 3 10 (codes "drl") 57 blank_sheet (Ok (1, record { 0 = 10 })) blank_sheet (codes "2 A drl 1 10" ++ end)
-    ∷ admitted 4 8 10 (codes "big") 74 blank_sheet (Err NoTaker) written_sheet (codes "3 A big R8" ++ end)
-    ∷ withdrawn 2 (Ok (0, record { 0 = 4 }, record { 0 = 10 })) (codes "4 W 2 0" ++ end)
-    ∷ []
-
+-- inputs with the player's text
 abbrev pub whole : List Case
-whole = played sample First 2 sample_plays ∷ []
+whole =
+    played sample sample_text
+    -- a file of no records
+    ∷ played (82 ∷ 65 ∷ 75 ∷ 0 ∷ 1 ∷ 87 ∷ 16 ∷ 0 ∷ 0 ∷ []) []
+    -- nothing at all, and a header that ends behind its version
+    ∷ played [] (codes "F 12 0\n")
+    ∷ played (82 ∷ 65 ∷ 75 ∷ 0 ∷ 1 ∷ []) (codes "F 12 5\n")
+    -- zeros, as many as a file may have bytes, and one more
+    ∷ played (replicate 65536 0) (codes "F 13 0\n")
+    ∷ played (replicate 65537 0) (codes "F 11 65536\n")
+    ∷ []
 
 abbrev pub cases : List Case
 cases = computed ++ (long ++ (places ++ whole))
