@@ -3,3 +3,4 @@ pub mod Fronts
 pub mod Readings
 pub mod OnlyText
 pub mod Midway
+pub mod Moving

@@ -2,3 +2,4 @@ pub mod Outcomes
 pub mod Playing
 pub mod Beginning
 pub mod Lines
+pub mod Streams

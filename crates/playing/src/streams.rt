@@ -1,0 +1,82 @@
+// What comes in and goes out, so that it is known also after an error how much was read or written.
+ghost use Rattle.std.specs.Prelude.{vec_len};
+ghost use Rattle.playing.specs.Streams.{Fills, TakesUp, ReadsInput, Puts, Finishes};
+
+use crate::halt::Halt;
+use std::alloc::Global;
+use std::io;
+use std::io::{BufWriter, Error, ErrorKind, Read, Write};
+
+// One byte more than a file may have: enough to tell that an input is too long.
+const MOST_READ: usize = 65_537;
+
+// The error where a loop over interrupted calls ends.
+fn gave_up() -> Error {
+    Error::new(ErrorKind::TimedOut, "interrupted too often")
+}
+
+// Reads into the buffer from its front, until it is full or nothing more comes, and answers how many bytes came. An interrupted read is tried again.
+#[tactic(auto, using(crate::proofs::Moving::readings))]
+fn fill<R: Read>(reader: &mut R, buffer: &mut [u8]) -> io::Result<usize>
+    ensures { Fills (R.remaining reader.old) (R.remaining reader.new) buffer.new result }
+{
+    let mut filled = 0;
+    for _ in 0..u64::MAX {
+        if filled == buffer.len() {
+            return Ok(filled);
+        }
+        match reader.read(&mut buffer[filled..]) {
+            Ok(0) => return Ok(filled),
+            Ok(n) => filled += n,
+            Err(e) if e.kind() == ErrorKind::Interrupted => {}
+            Err(e) => return Err(e),
+        }
+    }
+    Err(gave_up())
+}
+
+// Fills the vector from the reader, and cuts it to what came.
+#[tactic(auto, using(crate::proofs::Moving::taken_of))]
+fn fill_vec<R: Read>(reader: &mut R, mut room: Vec<u8>) -> io::Result<Vec<u8>>
+    ensures { TakesUp (vec_len room) (R.remaining reader.old) (R.remaining reader.new) result }
+{
+    let came = fill(reader, &mut room)?;
+    room.truncate(came);
+    Ok(room)
+}
+
+// All that the reader has, or the first 65,537 bytes of it.
+#[tactic(auto, using(crate::proofs::Moving::input_read))]
+pub(crate) fn read_input<R: Read>(alloc: Global, reader: &mut R) -> Result<Vec<u8>, Halt>
+    ensures { ReadsInput (R.remaining reader.old) (R.remaining reader.new) result }
+{
+    let room = vec![in alloc; 0u8; MOST_READ]?;
+    fill_vec(reader, room).map_err(Halt::Reading)
+}
+
+// Writes all the bytes. An interrupted write is tried again.
+#[tactic(auto, using(crate::proofs::Moving::writings))]
+pub(crate) fn put<W: Write>(writer: &mut W, bytes: &[u8]) -> io::Result<()>
+    ensures { Puts (W.contents writer.old) (W.contents writer.new) bytes.now result }
+{
+    let mut written = 0;
+    for _ in 0..u64::MAX {
+        if written == bytes.len() {
+            return Ok(());
+        }
+        match writer.write(&bytes[written..]) {
+            Ok(0) => return Err(ErrorKind::WriteZero.into()),
+            Ok(n) => written += n,
+            Err(e) if e.kind() == ErrorKind::Interrupted => {}
+            Err(e) => return Err(e),
+        }
+    }
+    Err(gave_up())
+}
+
+// Writes out what the buffer holds.
+pub(crate) fn finish<W: Write + Drop>(out: &mut BufWriter<W>) -> io::Result<()>
+    ensures { Finishes W.contents out.old out.new result }
+{
+    out.flush()
+}
