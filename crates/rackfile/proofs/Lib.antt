@@ -4,3 +4,4 @@ pub mod RecordBytes
 pub mod Headers
 pub mod Standing
 pub mod Labels
+pub mod Growing
