@@ -15,7 +15,7 @@ use Rattle.rackfile.specs.Files.{read_records}
 -- What was read of `s`, the end of an input of length `whole`: at most so many bytes, and a fault lies within.
 abbrev pub Placed : {A : Type 0} → ℕ → ℕ → List ℕ → Result (A × List ℕ) RecordFault → Type 0
 Placed most whole s (Ok x) = (length x.1 ≤ length s) × (length s ≤ length x.1 + most)
-Placed most whole s (Err (Bytes e)) = length s < most
+Placed most whole s (Err (Bytes e)) = (e ≡ Cut whole) × (length s < most)
 Placed most whole s (Err (Tag p)) = (whole ≤ p + length s) × (p < whole)
 Placed most whole s (Err (Label p)) = (whole ≤ p + length s) × (p < whole)
 
@@ -26,19 +26,19 @@ Took size s (Some x) = length s ≡ length x.1 + size
 
 placed_from : {A : Type 0} (before most all whole : ℕ) (s t : List ℕ) (r : Result (A × List ℕ) RecordFault) → length t ≤ length s → length s ≤ length t + before → before + most ≤ all → Placed most whole t r → Placed all whole s r
 placed_from before most all whole s t (Ok x) l h k p = (omega (arith, p.0), omega (arith, p.1))
-placed_from before most all whole s t (Err (Bytes e)) l h k p = omega arith
+placed_from before most all whole s t (Err (Bytes e)) l h k p = (p.0, omega (arith, p.1))
 placed_from before most all whole s t (Err (Tag q)) l h k p = (omega (arith, p.0), p.1)
 placed_from before most all whole s t (Err (Label q)) l h k p = (omega (arith, p.0), p.1)
 
 then_placed : {A B : Type 0} (size most all whole : ℕ) (s : List ℕ) (o : Option (A × List ℕ)) (k : A × List ℕ → Result (B × List ℕ) RecordFault) → Took size s o → size + most ≤ all
     → ((x : A × List ℕ) → length x.1 ≤ length s → Placed most whole x.1 (k x)) → Placed all whole s (then Bytes (field whole o) k)
-then_placed size most all whole s None k t l h = omega arith
+then_placed size most all whole s None k t l h = (refl, omega arith)
 then_placed size most all whole s (Some x) k t l h = placed_from size most all whole s x.1 (k x) (omega arith) (omega arith) l (h x (omega arith))
 
 next_placed : {A B : Type 0} (size most all whole : ℕ) (s : List ℕ) (r : Result (A × List ℕ) RecordFault) (k : A × List ℕ → Result (B × List ℕ) RecordFault) → Placed size whole s r → size + most ≤ all
     → ((x : A × List ℕ) → length x.1 ≤ length s → Placed most whole x.1 (k x)) → Placed all whole s (next r k)
 next_placed size most all whole s (Ok x) k p l h = placed_from size most all whole s x.1 (k x) p.0 p.1 l (h x p.0)
-next_placed size most all whole s (Err (Bytes e)) k p l h = omega arith
+next_placed size most all whole s (Err (Bytes e)) k p l h = (p.0, omega (arith, p.1))
 next_placed size most all whole s (Err (Tag q)) k p l h = p
 next_placed size most all whole s (Err (Label q)) k p l h = p
 
@@ -61,14 +61,14 @@ text_placed : (whole n : ℕ) (s : List ℕ) → n ≤ 16 → length s ≤ whole
 text_placed whole n s m w = go (leb n (length s)) refl
   where
     go : (t : Bool) → leb n (length s) ≡ t → Placed 16 whole s (then Bytes (field whole (cond t (Some (take n s, drop n s)) None)) (λ x. judged (place_in whole s) x (first_bad x.0)))
-    go false q = omega (arith, leb-false n (length s) q)
+    go false q = (refl, omega (arith, leb-false n (length s) q))
     go true q =
         let fits = leb-true n (length s) q in
         let long = length-take-le n s fits in
         judged_placed 16 whole s (take n s) (drop n s) (first_bad (take n s)) refl w (omega arith) (omega (arith, length-drop n s))
 
 label_placed : (whole : ℕ) (s : List ℕ) → length s ≤ whole → Placed 17 whole s (read_label whole s)
-label_placed whole [] w = omega arith
+label_placed whole [] w = (refl, omega arith)
 label_placed whole (n ∷ s) w = go (length_allowed n) refl
   where
     go : (t : Bool) → length_allowed n ≡ t → Placed 17 whole (n ∷ s) (cond t (read_text whole n s) (Err (Label (place_in whole (n ∷ s)))))
@@ -98,7 +98,7 @@ admission_placed whole s w = then_placed 4 25 29 whole s (take_word s) _ (word_t
 
 -- a record has at most 30 bytes
 pub record_placed : (whole : ℕ) (s : List ℕ) → length s ≤ whole → Placed 30 whole s (read_record whole s)
-record_placed whole [] w = omega arith
+record_placed whole [] w = (refl, omega arith)
 record_placed whole (a ∷ s) w = go (eqb a 65) (eqb a 87)
   where
     go : (t u : Bool) → Placed 30 whole (a ∷ s) (cond t (read_admission whole s) (cond u (read_withdrawal whole s) (Err (Tag (place_in whole (a ∷ s))))))
@@ -119,7 +119,7 @@ records_placed whole (suc n) s w = go (λ t. records_placed whole n t)
 -- stands there, or in the label that is cut.
 abbrev pub Later : {A : Type 0} → ℕ → List ℕ → Result (A × List ℕ) RecordFault → Type 0
 Later whole more (Ok x) = length x.1 < length more
-Later whole more (Err (Bytes e)) = Unit {0}
+Later whole more (Err (Bytes e)) = e ≡ Cut (whole + length more)
 Later whole more (Err (Tag p)) = whole ≤ p
 Later whole more (Err (Label p)) = whole < p + 16
 
@@ -142,25 +142,25 @@ same_place whole more s = omega (arith, length-append s more)
 
 later_from_placed : {A : Type 0} (most whole : ℕ) (more s : List ℕ) (r : Result (A × List ℕ) RecordFault) → length s < length more → Placed most (whole + length more) s r → Later whole more r
 later_from_placed most whole more s (Ok x) l p = omega (arith, p.0)
-later_from_placed most whole more s (Err (Bytes e)) l p = tt
+later_from_placed most whole more s (Err (Bytes e)) l p = p.0
 later_from_placed most whole more s (Err (Tag q)) l p = omega (arith, p.0)
 later_from_placed most whole more s (Err (Label q)) l p = omega (arith, p.0)
 
-then_later : {A B : Type 0} (whole all : ℕ) (more : List ℕ) (o : Option (A × List ℕ)) (k : A × List ℕ → Result (B × List ℕ) RecordFault) → Reaches more o
-    → ((x : A × List ℕ) → length x.1 < length more → Later whole more (k x)) → Later whole more (then Bytes (field all o) k)
-then_later whole all more None k h after = tt
-then_later whole all more (Some x) k h after = after x h
+then_later : {A B : Type 0} (whole : ℕ) (more : List ℕ) (o : Option (A × List ℕ)) (k : A × List ℕ → Result (B × List ℕ) RecordFault) → Reaches more o
+    → ((x : A × List ℕ) → length x.1 < length more → Later whole more (k x)) → Later whole more (then Bytes (field (whole + length more) o) k)
+then_later whole more None k h after = refl
+then_later whole more (Some x) k h after = after x h
 
 then_grows : {A B : Type 0} (size whole : ℕ) (more s : List ℕ) (o p : Option (A × List ℕ)) (k j : A × List ℕ → Result (B × List ℕ) RecordFault) → Took size s o → Grew more o p
     → ((x : A × List ℕ) → length x.1 ≤ length s → Grows whole more (k x) (j (x.0, x.1 ++ more))) → ((x : A × List ℕ) → length x.1 < length more → Later whole more (j x))
     → Grows whole more (then Bytes (field whole o) k) (then Bytes (field (whole + length more) p) j)
-then_grows size whole more s None p k j t g on after = (refl, then_later whole (whole + length more) more p j g after)
+then_grows size whole more s None p k j t g on after = (refl, then_later whole more p j g after)
 then_grows size whole more s (Some x) p k j t g on after = subst (λ q. Grows whole more (k x) (then Bytes (field (whole + length more) q) j)) (sym g) (on x (omega arith))
 
 next_later : {A B : Type 0} (whole : ℕ) (more : List ℕ) (r : Result (A × List ℕ) RecordFault) (k : A × List ℕ → Result (B × List ℕ) RecordFault) → Later whole more r
     → ((x : A × List ℕ) → length x.1 < length more → Later whole more (k x)) → Later whole more (next r k)
 next_later whole more (Ok x) k h after = after x h
-next_later whole more (Err (Bytes e)) k h after = tt
+next_later whole more (Err (Bytes e)) k h after = h
 next_later whole more (Err (Tag q)) k h after = h
 next_later whole more (Err (Label q)) k h after = h
 
@@ -217,7 +217,7 @@ text_grows whole n more s m w = rw (same_place whole more s) (go (leb n (length 
     go false true q h =
         let long = leb-true n (length (s ++ more)) h in
         (refl, cut_label whole n more s (take n (s ++ more)) (drop n (s ++ more)) (first_bad (take n (s ++ more))) m (leb-false n (length s) q) w (omega (arith, length-drop n (s ++ more))))
-    go false false q h = (refl, tt)
+    go false false q h = (refl, refl)
 
 -- what is read within the bytes behind
 within : {A : Type 0} (most whole : ℕ) (more s : List ℕ) (r : Result (A × List ℕ) RecordFault) → (length s ≤ whole + length more → Placed most (whole + length more) s r) → length s < length more → Later whole more r
@@ -225,7 +225,7 @@ within most whole more s r placed l = later_from_placed most whole more s r l (p
 
 -- a label whose length is among the bytes behind
 label_within : (whole : ℕ) (more : List ℕ) → Later whole more (read_label (whole + length more) more)
-label_within whole [] = tt
+label_within whole [] = refl
 label_within whole (n ∷ more) = go (length_allowed n) refl
   where
     go : (u : Bool) → length_allowed n ≡ u → Later whole (n ∷ more) (cond u (read_text (whole + length (n ∷ more)) n more) (Err (Label (place_in (whole + length (n ∷ more)) (n ∷ more)))))
@@ -266,7 +266,7 @@ admission_grows whole more s w =
 
 -- a record whose first byte is among those behind
 record_within : (whole : ℕ) (more : List ℕ) → Later whole more (read_record (whole + length more) more)
-record_within whole [] = tt
+record_within whole [] = refl
 record_within whole (a ∷ more) = go (eqb a 65) (eqb a 87)
   where
     go : (t u : Bool) → Later whole (a ∷ more) (cond t (read_admission (whole + length (a ∷ more)) more) (cond u (read_withdrawal (whole + length (a ∷ more)) more) (Err (Tag (place_in (whole + length (a ∷ more)) (a ∷ more))))))

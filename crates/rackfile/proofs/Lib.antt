@@ -5,3 +5,4 @@ pub mod Headers
 pub mod Standing
 pub mod Labels
 pub mod Growing
+pub mod Judging
