@@ -6,3 +6,5 @@ pub mod Standing
 pub mod Labels
 pub mod Growing
 pub mod Judging
+pub mod FaultLaws
+pub mod Written

@@ -27,11 +27,6 @@ OneFile = (input : List ℕ) (f g : File) → AreBytes input → Stands input f 
 abbrev pub NotBoth : Type 0
 NotBoth = (input : List ℕ) (f : File) (e : FileFault) → AreBytes input → Stands input f → reading input ≢ Err e
 
--- every list of records within the limits has bytes that stand for it
-abbrev pub EveryFileHasBytes : Type 0
-EveryFileHasBytes = (f : File) → processors_allowed f.processors ≡ true → length f.records < 2 ^ 16 → all_allowed f.records ≡ true → all_placed 9 f.records ≡ true
-    → length (file_bytes f) ≤ 65536 → Stands (file_bytes f) f
-
 -- the label that a record shows is that very part of the input, at its place
 abbrev pub Shows : List ℕ → Seen → Type 0
 Shows input (admits number work period label place) = take (length label) (drop place input) ≡ label

@@ -5,3 +5,4 @@ pub mod Files
 pub mod Taking
 pub mod Format
 pub mod Exact
+pub mod FaultLaws

@@ -1,6 +1,7 @@
 // What reading and writing a file have been proved to mean.
 ghost use Rattle.rackfile.specs.Faults.{FaultsDiffer};
-ghost use Rattle.rackfile.specs.Exact.{ReadsWhatStands, OneFile, NotBoth, EveryFileHasBytes, LabelsAreThere};
+ghost use Rattle.rackfile.specs.Exact.{ReadsWhatStands, OneFile, NotBoth, LabelsAreThere};
+ghost use Rattle.rackfile.specs.FaultLaws.{FileReadsBack, FaultsStay, FaultsShow, TrailingExactly, CutExactly, TooLongExactly};
 
 /// No two faults have the same number and place.
 pub fn faults_differ()
@@ -24,13 +25,41 @@ pub fn not_both()
     ensures { NotBoth }
 {}
 
-/// Every file within the limits has bytes.
-pub fn every_file_has_bytes()
-    ensures { EveryFileHasBytes }
+/// The bytes of every file within the limits are bytes, and reading them gives that file.
+pub fn file_reads_back()
+    ensures { FileReadsBack }
 {}
 
 /// A record's label is that part of the input.
 #[tactic(auto, using(crate::proofs::Labels::labels_are_there))]
 pub fn labels_are_there()
     ensures { LabelsAreThere }
+{}
+
+/// A fault of 13 to 17 stays the same whatever bytes follow.
+pub fn faults_stay()
+    ensures { FaultsStay }
+{}
+
+/// A fault of 13 to 16 is there as soon as the field that shows it is whole, and before that 12.
+#[tactic(auto, using(crate::proofs::FaultLaws::faults_show))]
+pub fn faults_show()
+    ensures { FaultsShow }
+{}
+
+/// 17 is exactly where bytes follow a file.
+pub fn trailing_behind_file()
+    ensures { TrailingExactly }
+{}
+
+/// 12 is exactly where an input could go on to a file, or to a fault that a field shows.
+#[tactic(auto, using(crate::proofs::FaultLaws::cut_exactly))]
+pub fn cut_exactly()
+    ensures { CutExactly }
+{}
+
+/// 11 is exactly above 65,536 bytes.
+#[tactic(auto, using(crate::proofs::FaultLaws::too_long_exactly))]
+pub fn too_long_exactly()
+    ensures { TooLongExactly }
 {}

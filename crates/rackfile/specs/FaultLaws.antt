@@ -1,0 +1,69 @@
+-- Laws above the faults: what more bytes, and fewer, do to them.
+use Rattle.std.specs.Prelude.{◌≡◌, ℕ, ◌+◌, ◌*◌, ◌^◌, ◌<◌, ◌≤◌, true, ◌↔◌, List, ◌++◌, length, take, drop, Ok, Err, Result, ◌≢◌}
+use Rattle.rackfile.specs.declared.fault.RecordFault.TheVariants.{Bytes, Tag, Label}
+use Rattle.rackfile.specs.declared.fault.FileFault.{FileFault}
+use Rattle.rackfile.specs.declared.fault.FileFault.TheVariants as fault
+use Rattle.rackfile.specs.Faults.{number_of, place_of}
+use Rattle.rackfile.specs.Files.{File, cut, processors_allowed, judging, reading}
+use Rattle.rackfile.specs.Format.{file_bytes, all_allowed, all_placed, Stands}
+use Rattle.rackfile.specs.Exact.{AreBytes}
+
+-- a fault that a field shows by what it holds
+abbrev pub IsShown : FileFault → Type 0
+IsShown f = (13 ≤ number_of f) × (number_of f ≤ 16)
+
+-- A fault of 13 to 17 stays the same whatever bytes follow, as long as the whole is short enough for a file.
+abbrev pub FaultsStay : Type 0
+FaultsStay = (input more : List ℕ) (f : FileFault) → reading input ≡ Err f → 13 ≤ number_of f → number_of f ≤ 17 → length (input ++ more) ≤ 65536 → reading (input ++ more) ≡ Err f
+
+-- where the field ends that shows a fault
+abbrev pub EndsField : FileFault → ℕ → Type 0
+EndsField fault.Mark end = end ≡ 3
+EndsField fault.Version end = end ≡ 5
+EndsField fault.Policy end = end ≡ 6
+EndsField fault.Processors end = end ≡ 7
+EndsField (fault.Record (Tag place)) end = end ≡ place + 1
+EndsField (fault.Record (Label place)) end = (place < end) × (end ≤ place + 16)
+EndsField (fault.Record (Bytes e)) end = ⊥
+
+-- A fault of 13 to 16 is there as soon as the field that shows it is whole: an input that is cut behind the field has the same fault, and
+-- one that is cut before the field's end is 12 there.
+pub record ShownFrom (input : List ℕ) (f : FileFault) (end : ℕ) : Type 0 where
+  pub field : EndsField f end
+  pub within : end ≤ length input
+  pub behind : (k : ℕ) → end ≤ k → reading (take k input) ≡ Err f
+  pub before : (k : ℕ) → k < end → reading (take k input) ≡ Err (cut k)
+
+abbrev pub FaultsShow : Type 0
+FaultsShow = (input : List ℕ) (f : FileFault) → reading input ≡ Err f → IsShown f → (end : ℕ) × ShownFrom input f end
+
+-- reading the input ends with a fault of this number at this place
+abbrev pub HasFault : List ℕ → ℕ → ℕ → Type 0
+HasFault input number place = (f : FileFault) × (reading input ≡ Err f) × (number_of f ≡ number) × (place_of f ≡ place)
+
+-- An input has 17 at a place exactly where the bytes before that place are a file, and more bytes follow.
+abbrev pub TrailingExactly : Type 0
+TrailingExactly = (input : List ℕ) (place : ℕ) → AreBytes input → length input ≤ 65536 → HasFault input 17 place ↔ ((place < length input) × (g : File) × Stands (take place input) g)
+
+-- a file, or a fault that a field shows
+abbrev pub Settled : Result File FileFault → Type 0
+Settled (Ok f) = Unit {0}
+Settled (Err f) = IsShown f
+
+-- Bytes could follow with which the whole, were it never too long, would be a file or show a fault, and the input alone does not say so yet.
+abbrev pub CouldGoOn : List ℕ → Type 0
+CouldGoOn input = (more : List ℕ) × AreBytes more × Settled (judging (input ++ more)) × (judging (input ++ more) ≢ judging input)
+
+-- An input has 12 exactly where it could go on so, and then at its own length.
+pub record CutExactly : Type 0 where
+  pub could_go_on : (input : List ℕ) → AreBytes input → length input ≤ 65536 → HasFault input 12 (length input) ↔ CouldGoOn input
+  pub at_the_end : (input : List ℕ) (place : ℕ) → HasFault input 12 place → place ≡ length input
+
+-- An input has 11 exactly above 65,536 bytes.
+abbrev pub TooLongExactly : Type 0
+TooLongExactly = (input : List ℕ) → HasFault input 11 65536 ↔ (65536 < length input)
+
+-- For every file within the limits, its bytes are bytes, and reading them gives that file.
+abbrev pub FileReadsBack : Type 0
+FileReadsBack = (f : File) → processors_allowed f.processors ≡ true → length f.records < 2 ^ 16 → all_allowed f.records ≡ true → all_placed 9 f.records ≡ true
+    → length (file_bytes f) ≤ 65536 → AreBytes (file_bytes f) × (reading (file_bytes f) ≡ Ok f)
