@@ -1,8 +1,8 @@
 -- The laws above the faults.
-use Rattle.std.proofs.Common.{◌≡◌, ◌⊎◌, ◌≢◌, ℕ, zero, suc, ◌+◌, ◌-◌, ◌*◌, ◌^◌, ◌<◌, ◌≤◌, Bool, true, false, cond, ltb, List, [], ◌∷◌, ◌++◌, length, take, drop, replicate, Ok, Err, Result, sym, refl, ap, ◌∙◌, subst, inl, inr, arith, rules}
-use Rattle.std.proofs.lemmas.List.{append_assoc, append-nil, length-append, length-drop, length-take, length-take-le, length-replicate, take-append-drop, take-append-le, take-take, take_all, take_at, drop_at, drop-append-le}
+use Rattle.std.proofs.Common.{◌≡◌, ◌⊎◌, ◌≢◌, ℕ, zero, suc, ◌+◌, ◌-◌, ◌*◌, ◌^◌, ◌<◌, ◌≤◌, Bool, true, false, cond, List, [], ◌∷◌, ◌++◌, length, take, drop, replicate, Ok, Err, sym, refl, ap, ◌∙◌, subst, inl, inr, arith}
+use Rattle.std.proofs.lemmas.List.{length-append, length-drop, length-take, length-take-le, length-replicate, take-append-drop, take-take, take_all}
 use Rattle.std.proofs.Math.Seq.{take-append-add}
-use Rattle.std.proofs.lemmas.List.Elements.{All-append, All-take, All-drop, All-replicate}
+use Rattle.std.proofs.lemmas.List.Elements.{All-append, All-take, All-replicate}
 use Rattle.std.proofs.lemmas.Bool.{ltb-true, ltb-false, le-ltb, lt-ltb, cond-true, cond-false}
 use Rattle.rackfile.specs.declared.fault.BytesFault.TheVariants.{TooLong, Cut, Trailing}
 use Rattle.rackfile.specs.declared.fault.RecordFault.TheVariants.{Bytes, Tag, Label}
@@ -13,7 +13,7 @@ use Rattle.rackfile.specs.Reading.{too_long}
 use Rattle.rackfile.specs.Files.{File, cut, judging, reading}
 use Rattle.rackfile.specs.Format.{Stands}
 use Rattle.rackfile.specs.Exact.{AreBytes}
-use Rattle.rackfile.specs.FaultLaws.{IsShown, FaultsStay, EndsField, ShownFrom, FaultsShow, HasFault, TrailingExactly, Settled, CouldGoOn, CutExactly, TooLongExactly}
+use Rattle.rackfile.specs.FaultLaws.{IsShown, FaultsStay, EndsField, FaultsShow, HasFault, TrailingExactly, Settled, CouldGoOn, CutExactly, TooLongExactly}
 use Rattle.rackfile.proofs.Judging.{Long, Short, Judged, Behind, FaultGrows, JudgingGrows, judging_grows, cut_is_short}
 use Rattle.rackfile.proofs.Standing.{stands, reads}
 
@@ -134,13 +134,15 @@ pub faults_show : FaultsShow
 faults_show input f e shown =
     let j = judged_so input f e (λ k. let low = shown.0 in omega arith) in
     let one = first input f j.0 shown (length input) (omega arith) (ap judging (take_all (length input) input (omega arith)) ∙ j.0) in
-    let short = λ (k : ℕ) (le : k ≤ length input). let long = length-take-le k input le in reading_judges (take k input) (omega (arith, j.1)) in
-    (one.end, record {
-      field = ends f one.end shown (is_long one) (λ pos. is_short one j.0 pos);
-      within = one.within;
-      behind = λ k le. behind one j.0 j.1 k le;
-      before = λ k l. short k (omega (arith, one.within)) ∙ one.before k l;
-    })
+    let short = λ (k : ℕ) (le : k ≤ length input). let long = length-take-le k input le in reading_judges (take k input) (omega (arith, j.1)) in (
+      one.end,
+      record {
+        field = ends f one.end shown (is_long one) (λ pos. is_short one j.0 pos);
+        within = one.within;
+        behind = λ k le. behind one j.0 j.1 k le;
+        before = λ k l. short k (omega (arith, one.within)) ∙ one.before k l;
+      },
+    )
   where
     is_long : (one : First input f) → Long f one.end
     is_long one =
@@ -193,7 +195,7 @@ trailing_behind input p g less e = sym (ap judging (take-append-drop p input)) �
     go [] q = absurd (omega (arith, length-drop p input, ap length q))
     go (a ∷ more) q =
         subst (λ l. judging (take p input ++ drop p input) ≡ Err (Record (Bytes (Trailing l)))) long
-          (subst (λ x. Behind (length (take p input)) x g (judging (take p input ++ drop p input))) q (grown (take p input) (drop p input) (Ok g) (judging (take p input ++ drop p input)) e refl))
+        (subst (λ x. Behind (length (take p input)) x g (judging (take p input ++ drop p input))) q (grown (take p input) (drop p input) (Ok g) (judging (take p input ++ drop p input)) e refl))
 
 pub trailing_exactly : TrailingExactly
 trailing_exactly input place b short = (to, from)

@@ -1,15 +1,15 @@
 -- Reading a record, and reading it again with more bytes behind: what has been read stays, a fault of what was read stays, and a cut is
 -- followed by nothing that stands before it.
-use Rattle.std.proofs.Common.{◌≡◌, ℕ, zero, suc, ◌+◌, ◌-◌, ◌*◌, ◌<◌, ◌≤◌, Bool, true, false, not, cond, eqb, leb, List, [], ◌∷◌, ◌++◌, length, take, drop, Some, None, Ok, Err, Option, Result, sym, refl, ap, ◌∙◌, subst, inl, inr, arith}
+use Rattle.std.proofs.Common.{◌≡◌, ℕ, zero, suc, ◌+◌, ◌*◌, ◌<◌, ◌≤◌, Bool, true, false, not, cond, eqb, leb, List, [], ◌∷◌, ◌++◌, length, take, drop, Some, None, Ok, Err, Option, Result, sym, refl, ap, subst, arith}
 use Rattle.std.proofs.lemmas.List.{length-append, length-drop, take-append-le, drop-append-le}
 use Rattle.std.proofs.lemmas.List.Quantifiers.{position-Some}
 use Rattle.std.proofs.lemmas.List.{length-take-le}
-use Rattle.std.proofs.lemmas.Bool.{and_parts, leb-true, leb-false, le-leb, cases_Bool}
+use Rattle.std.proofs.lemmas.Bool.{and_parts, leb-true, leb-false}
 use Rattle.rackfile.specs.declared.fault.BytesFault.TheVariants.{Cut}
 use Rattle.rackfile.specs.declared.fault.RecordFault.{RecordFault}
 use Rattle.rackfile.specs.declared.fault.RecordFault.TheVariants.{Bytes, Tag, Label}
-use Rattle.rackfile.specs.Reading.{place_in, field, take_byte, take_word, take_part}
-use Rattle.rackfile.specs.Records.{Seen, admits, withdraws, printable, first_bad, length_allowed, then, next, judged, read_text, read_label, read_admission, read_withdrawal, read_record}
+use Rattle.rackfile.specs.Reading.{place_in, field, take_byte, take_word}
+use Rattle.rackfile.specs.Records.{Seen, admits, printable, first_bad, length_allowed, then, next, judged, read_text, read_label, read_admission, read_withdrawal, read_record}
 use Rattle.rackfile.specs.Files.{read_records}
 
 -- What was read of `s`, the end of an input of length `whole`: at most so many bytes, and a fault lies within.
@@ -209,7 +209,7 @@ text_grows whole n more s m w = rw (same_place whole more s) (go (leb n (length 
   where
     go : (t u : Bool) → leb n (length s) ≡ t → leb n (length (s ++ more)) ≡ u
         → Grows whole more (then Bytes (field whole (cond t (Some (take n s, drop n s)) None)) (λ x. judged (place_in whole s) x (first_bad x.0)))
-            (then Bytes (field (whole + length more) (cond u (Some (take n (s ++ more), drop n (s ++ more))) None)) (λ x. judged (place_in whole s) x (first_bad x.0)))
+        (then Bytes (field (whole + length more) (cond u (Some (take n (s ++ more), drop n (s ++ more))) None)) (λ x. judged (place_in whole s) x (first_bad x.0)))
     go true true q h =
         let fits = leb-true n (length s) q in
         rw (take-append-le n s more fits, drop-append-le n s more fits) (judged_grows whole (place_in whole s) more (take n s) (drop n s) (first_bad (take n s)))
@@ -247,22 +247,22 @@ work_grows : (number work whole : ℕ) (more s : List ℕ) → length s ≤ whol
 work_grows number work whole more s w =
     let all = whole + length more in
     then_grows 4 whole more s (take_word s) (take_word (s ++ more)) _ _ (word_took s) (word_grew more s)
-      (λ t l. next_grows 17 whole more t.1 (read_label whole t.1) (read_label all (t.1 ++ more)) _ _ (label_placed whole t.1 (omega arith)) (label_grows whole more t.1 (omega arith)) (λ x k. refl) (λ x k. k))
-      (λ t l. next_later whole more (read_label all t.1) _ (within 17 whole more t.1 (read_label all t.1) (label_placed all t.1) l) (λ x k. k))
+    (λ t l. next_grows 17 whole more t.1 (read_label whole t.1) (read_label all (t.1 ++ more)) _ _ (label_placed whole t.1 (omega arith)) (label_grows whole more t.1 (omega arith)) (λ x k. refl) (λ x k. k))
+    (λ t l. next_later whole more (read_label all t.1) _ (within 17 whole more t.1 (read_label all t.1) (label_placed all t.1) l) (λ x k. k))
 
 number_grows : (number whole : ℕ) (more s : List ℕ) → length s ≤ whole → Grows whole more (behind_number number whole s) (behind_number number (whole + length more) (s ++ more))
 number_grows number whole more s w =
     let all = whole + length more in
     then_grows 4 whole more s (take_word s) (take_word (s ++ more)) _ _ (word_took s) (word_grew more s)
-      (λ c l. work_grows number c.0 whole more c.1 (omega arith))
-      (λ c l. within 21 whole more c.1 (behind_work number c.0 all c.1) (work_placed number c.0 all c.1) l)
+    (λ c l. work_grows number c.0 whole more c.1 (omega arith))
+    (λ c l. within 21 whole more c.1 (behind_work number c.0 all c.1) (work_placed number c.0 all c.1) l)
 
 admission_grows : (whole : ℕ) (more s : List ℕ) → length s ≤ whole → Grows whole more (read_admission whole s) (read_admission (whole + length more) (s ++ more))
 admission_grows whole more s w =
     let all = whole + length more in
     then_grows 4 whole more s (take_word s) (take_word (s ++ more)) _ _ (word_took s) (word_grew more s)
-      (λ n l. number_grows n.0 whole more n.1 (omega arith))
-      (λ n l. within 25 whole more n.1 (behind_number n.0 all n.1) (number_placed n.0 all n.1) l)
+    (λ n l. number_grows n.0 whole more n.1 (omega arith))
+    (λ n l. within 25 whole more n.1 (behind_number n.0 all n.1) (number_placed n.0 all n.1) l)
 
 -- a record whose first byte is among those behind
 record_within : (whole : ℕ) (more : List ℕ) → Later whole more (read_record (whole + length more) more)
@@ -292,5 +292,5 @@ records_grow whole (suc n) more s w = go (λ t. records_grow whole n more t)
     go ih =
         let all = whole + length more in
         next_grows 30 whole more s (read_record whole s) (read_record all (s ++ more)) _ _ (record_placed whole s w) (record_grows whole more s w)
-          (λ x l. next_grows (30 * n) whole more x.1 (read_records whole n x.1) (read_records all n (x.1 ++ more)) _ _ (records_placed whole n x.1 (omega arith)) (ih x.1 (omega arith)) (λ y k. refl) (λ y k. k))
-          (λ x l. next_later whole more (read_records all n x.1) _ (within (30 * n) whole more x.1 (read_records all n x.1) (records_placed all n x.1) l) (λ y k. k))
+        (λ x l. next_grows (30 * n) whole more x.1 (read_records whole n x.1) (read_records all n (x.1 ++ more)) _ _ (records_placed whole n x.1 (omega arith)) (ih x.1 (omega arith)) (λ y k. refl) (λ y k. k))
+        (λ x l. next_later whole more (read_records all n x.1) _ (within (30 * n) whole more x.1 (read_records all n x.1) (records_placed all n x.1) l) (λ y k. k))

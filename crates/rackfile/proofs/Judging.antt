@@ -1,10 +1,9 @@
 -- Judging an input, and judging it again with more bytes behind.
-use Rattle.std.proofs.Common.{◌≡◌, ◌⊎◌, ℕ, suc, ◌+◌, ◌-◌, ◌*◌, ◌^◌, ◌<◌, ◌≤◌, Bool, true, false, not, cond, ◌==◌, eqb, ltb, List, [], ◌∷◌, ◌++◌, length, get_or, drop, is_some, Some, None, Ok, Err, Option, Result, sym, refl, ap, ◌∙◌, subst, inl, inr, arith}
-use Rattle.std.proofs.lemmas.List.{length-append, length-drop, drop-append-le, get_or_append_left, append-nil}
+use Rattle.std.proofs.Common.{◌≡◌, ◌⊎◌, ℕ, ◌+◌, ◌-◌, ◌*◌, ◌^◌, ◌<◌, ◌≤◌, Bool, true, false, not, cond, ◌==◌, eqb, ltb, List, [], ◌∷◌, ◌++◌, length, get_or, drop, is_some, Some, None, Ok, Err, Option, Result, sym, refl, ap, ◌∙◌, subst, inl, inr, arith}
+use Rattle.std.proofs.lemmas.List.{length-append, length-drop, drop-append-le, get_or_append_left}
 use Rattle.std.proofs.lemmas.Bool.{ltb-true, ltb-false, ne_eqb, cond-false, not-false}
 use Rattle.preferences.specs.declared.policy.Policy.{Policy}
 use Rattle.preferences.specs.Policies.{policy_named}
-use Rattle.rackfile.specs.declared.fault.BytesFault.{BytesFault}
 use Rattle.rackfile.specs.declared.fault.BytesFault.TheVariants.{TooLong, Cut, Trailing}
 use Rattle.rackfile.specs.declared.fault.RecordFault.{RecordFault}
 use Rattle.rackfile.specs.declared.fault.RecordFault.TheVariants.{Bytes, Tag, Label}
@@ -107,8 +106,8 @@ header_grows s more =
     let g6 = head_step l m 6 (not (is_some (policy_named (get_or s 5 0)))) (not (is_some (policy_named (get_or (s ++ more) 5 0)))) PolicyFault _ _ le (omega arith) (λ h. ap (λ a. not (is_some (policy_named a))) (at 5 (omega arith))) (λ h. h) (λ h. h) (λ h. k7 (omega arith)) g7 in
     let g5 = head_step l m 5 (not (is_version (get_or s 3 0) (get_or s 4 0))) (not (is_version (get_or (s ++ more) 3 0) (get_or (s ++ more) 4 0))) Version _ _ le (omega arith) (λ h. ap (λ a. not (is_version a (get_or (s ++ more) 4 0))) (at 3 (omega arith)) ∙ ap (λ a. not (is_version (get_or s 3 0) a)) (at 4 (omega arith))) (λ h. h) (λ h. h) (λ h. k6 (omega arith)) g6 in
     head_step l m 3 (not (is_mark (get_or s 0 0) (get_or s 1 0) (get_or s 2 0))) (not (is_mark (get_or (s ++ more) 0 0) (get_or (s ++ more) 1 0) (get_or (s ++ more) 2 0))) Mark _ _ le (omega arith)
-      (λ h. ap (λ a. not (is_mark a (get_or (s ++ more) 1 0) (get_or (s ++ more) 2 0))) (at 0 (omega arith)) ∙ ap (λ a. not (is_mark (get_or s 0 0) a (get_or (s ++ more) 2 0))) (at 1 (omega arith)) ∙ ap (λ a. not (is_mark (get_or s 0 0) (get_or s 1 0) a)) (at 2 (omega arith)))
-      (λ h. h) (λ h. h) (λ h. k5 (omega arith)) g5
+    (λ h. ap (λ a. not (is_mark a (get_or (s ++ more) 1 0) (get_or (s ++ more) 2 0))) (at 0 (omega arith)) ∙ ap (λ a. not (is_mark (get_or s 0 0) a (get_or (s ++ more) 2 0))) (at 1 (omega arith)) ∙ ap (λ a. not (is_mark (get_or s 0 0) (get_or s 1 0) a)) (at 2 (omega arith)))
+    (λ h. h) (λ h. h) (λ h. k5 (omega arith)) g5
 
 -- a header without a fault has a policy's letter
 header_named : (whole : ℕ) (s : List ℕ) → header_fault whole s ≡ None → is_some (policy_named (get_or s 5 0)) ≡ true
@@ -254,10 +253,10 @@ judging_grows input more = go (header_fault (length input) input) (header_fault 
         let at = λ (i : ℕ) (h : i < 9). get_or_append_left input more 0 i (omega arith) in
         let count : count_in (input ++ more) ≡ n = omega (arith, at 7 (omega arith), at 8 (omega arith)) in
         let same = same_file (length (input ++ more)) (l + length more) (get_or (input ++ more) 5 0) (get_or input 5 0) (get_or (input ++ more) 6 0) m (count_in (input ++ more)) n (drop 9 (input ++ more)) (s ++ more)
-            (length-append input more) (at 5 (omega arith)) (at 6 (omega arith)) count (drop-append-le 9 input more long) in
+        (length-append input more) (at 5 (omega arith)) (at 6 (omega arith)) count (drop-append-le 9 input more long) in
         let fits : length s ≤ l = omega (arith, length-drop 9 input) in
         subst (JudgingGrows l more (with_header input None)) (sym same)
-          (with_records_grows l (30 * n) more s (policy_named (get_or input 5 0)) m (read_records l n s) (read_records (l + length more) n (s ++ more)) (omega arith) fits (records_placed l n s fits) (records_grow l n more s fits))
+        (with_records_grows l (30 * n) more s (policy_named (get_or input 5 0)) m (read_records l n s) (read_records (l + length more) n (s ++ more)) (omega arith) fits (records_placed l n s fits) (records_grow l n more s fits))
 
     go : (o p : Option FileFault) → header_fault (length (input ++ more)) (input ++ more) ≡ p → HeadGrows (length input) o p → JudgingGrows (length input) more (with_header input o) (with_header (input ++ more) p)
     go None p e (long, is) = subst (λ q. JudgingGrows (length input) more (with_header input None) (with_header (input ++ more) q)) (sym is) (whole long)

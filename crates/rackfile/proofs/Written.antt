@@ -1,5 +1,5 @@
 -- The bytes of a file are bytes.
-use Rattle.std.proofs.Common.{◌≡◌, ℕ, ◌/◌, ◌%◌, ◌+◌, ◌*◌, ◌^◌, ◌<◌, ◌≤◌, Bool, true, ltb, leb, List, [], ◌∷◌, ◌++◌, length, refl, arith}
+use Rattle.std.proofs.Common.{◌≡◌, ℕ, ◌/◌, ◌%◌, ◌^◌, ◌<◌, true, ltb, leb, List, [], ◌∷◌, ◌++◌, length, refl, arith}
 use Rattle.std.specs.List.{list_all}
 use Rattle.std.proofs.lemmas.List.Elements.{All-append, All-cons, All-nil}
 use Rattle.std.proofs.lemmas.Bool.{and_parts, ltb-true, leb-true}
@@ -7,7 +7,7 @@ use Rattle.preferences.specs.declared.policy.Policy.{Policy}
 use Rattle.preferences.specs.declared.policy.Policy.TheVariants.{First, Best, Worst}
 use Rattle.preferences.specs.Policies.{letter_of}
 use Rattle.rackfile.specs.Records.{Seen, admits, withdraws, printable, length_allowed}
-use Rattle.rackfile.specs.Files.{File, processors_allowed}
+use Rattle.rackfile.specs.Files.{processors_allowed}
 use Rattle.rackfile.specs.Format.{half, word, header_bytes, record_bytes, records_bytes, file_bytes, record_allowed, all_allowed}
 use Rattle.rackfile.specs.Exact.{AreBytes}
 use Rattle.rackfile.specs.FaultLaws.{FileReadsBack}
@@ -73,6 +73,6 @@ records_are (v ∷ vs) a =
 
 pub file_reads_back : FileReadsBack
 file_reads_back f m few allowed placed short = (
-      both (header_bytes f.policy f.processors (length f.records)) (records_bytes f.records) (header_are f.policy f.processors (length f.records) m few) (records_are f.records allowed),
-      reads (file_bytes f) f (record { bytes = refl; short = short; processors = m; few = few; allowed = allowed; places = placed }),
-    )
+  both (header_bytes f.policy f.processors (length f.records)) (records_bytes f.records) (header_are f.policy f.processors (length f.records) m few) (records_are f.records allowed),
+  reads (file_bytes f) f (record { bytes = refl; short = short; processors = m; few = few; allowed = allowed; places = placed }),
+)

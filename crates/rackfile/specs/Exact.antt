@@ -1,10 +1,10 @@
 -- What reading a file means: exactly the bytes that stand for a file are read as it, and all others have exactly one fault.
-use Rattle.std.specs.Prelude.{◌≡◌, ℕ, ◌^◌, ◌<◌, ◌≤◌, true, ◌↔◌, List, length, take, drop, Ok, Err, Result, ◌≢◌, All}
+use Rattle.std.specs.Prelude.{◌≡◌, ℕ, ◌<◌, ◌↔◌, List, length, take, drop, Ok, Err, Result, ◌≢◌, All}
 use Rattle.rackfile.specs.declared.fault.FileFault.{FileFault}
 use Rattle.rackfile.specs.declared.file.RackFile.{RackFile}
 use Rattle.rackfile.specs.Records.{Seen, admits, withdraws}
-use Rattle.rackfile.specs.Files.{File, file_seen, processors_allowed, reading}
-use Rattle.rackfile.specs.Format.{file_bytes, all_allowed, all_placed, Stands}
+use Rattle.rackfile.specs.Files.{File, file_seen, reading}
+use Rattle.rackfile.specs.Format.{Stands}
 
 -- a list of bytes
 abbrev pub AreBytes : List ℕ → Type 0
