@@ -61,10 +61,9 @@ pub(crate) fn put<W: Write>(writer: &mut W, bytes: &[u8]) -> io::Result<()>
 {
     let mut written = 0;
     for _ in 0..u64::MAX {
-        if written == bytes.len() {
-            return Ok(());
-        }
-        match writer.write(&bytes[written..]) {
+        let part = &bytes[written..];
+        match writer.write(part) {
+            Ok(n) if n == part.len() => return Ok(()),
             Ok(0) => return Err(ErrorKind::WriteZero.into()),
             Ok(n) => written += n,
             Err(e) if e.kind() == ErrorKind::Interrupted => {}
