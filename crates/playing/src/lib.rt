@@ -5,12 +5,10 @@ mod fault;
 mod halt;
 mod opening;
 mod outcome;
-mod play;
+mod records;
 mod streams;
 mod theorems;
 
-pub use fault::{PlayerFault, RefusedRecord, Stop};
+pub use fault::{PlayerFault, RefusedRecord};
 pub use halt::Halt;
-pub use opening::{Play, begin, write_fault};
-pub use play::play_record;
 pub use theorems::{front_decides, one_text};

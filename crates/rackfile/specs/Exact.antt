@@ -10,9 +10,9 @@ use Rattle.rackfile.specs.Format.{Stands}
 abbrev pub AreBytes : List ℕ → Type 0
 AreBytes input = All (λ b. b < 256) input
 
--- what was read: a file that the bytes stand for, or the fault
+-- what was read: the file, for which the bytes stand, or the fault
 abbrev pub FileRead : List ℕ → Result RackFile FileFault → Type 0
-FileRead input (Ok f) = Stands input (file_seen f)
+FileRead input (Ok f) = (reading input ≡ Ok (file_seen f)) × Stands input (file_seen f)
 FileRead input (Err f) = reading input ≡ Err f
 
 -- bytes are read as a file exactly when they stand for it

@@ -9,4 +9,4 @@ returns c =
     let small : (i : ℕ) → get_or input i 0 < 256 = λ i. omega (arith, c.type_inv.input i) in
     let f = file_seen (record { policy = c.in_ok-header.header.policy; processors = c.in_ok-header.header.processors; records = c.in_ok-records.records }) in
     let e : reading input ≡ Ok f = search rules in
-    stands input f (bytes_from input small) e
+    (e, stands input f (bytes_from input small) e)

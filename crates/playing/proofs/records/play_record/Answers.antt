@@ -8,7 +8,7 @@ use Rattle.lines.specs.Writing.{Written}
 use Rattle.playing.specs.Outcomes.{admission_line, withdrawal_line}
 use Rattle.playing.specs.Playing.{Plays}
 use Rattle.playing.proofs.Carrying.{admission_told, withdrawal_told}
-use Rattle.playing.proofs.play.play_record.Goals as goal
+use Rattle.playing.proofs.records.play_record.Goals as goal
 
 pub returns-in-Admission-clause-played : goal.returns-in-Admission-clause-played
 returns-in-Admission-clause-played g c =

@@ -14,7 +14,7 @@ use tasks::Task;
 
 /// Plays one record on the rack, writes its line at the front of the buffer and answers the line's length.
 // Five parameters: the rack, the record and its index, and the caller's own sheet and buffer, so that nothing is allocated.
-pub fn play_record<J: Judge, P: Preference>(
+pub(crate) fn play_record<J: Judge, P: Preference>(
     rack: &mut Rack<J, P>,
     one: Record<'_>,
     index: u32,
