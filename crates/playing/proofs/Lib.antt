@@ -4,3 +4,5 @@ pub mod Readings
 pub mod OnlyText
 pub mod Midway
 pub mod Moving
+pub mod Turning
+pub mod Appending

@@ -3,3 +3,4 @@ pub mod Playing
 pub mod Beginning
 pub mod Lines
 pub mod Streams
+pub mod Running

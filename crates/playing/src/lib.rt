@@ -6,9 +6,11 @@ mod halt;
 mod opening;
 mod outcome;
 mod records;
+mod run;
 mod streams;
 mod theorems;
 
 pub use fault::{PlayerFault, RefusedRecord};
 pub use halt::Halt;
+pub use run::play;
 pub use theorems::{front_decides, one_text};
