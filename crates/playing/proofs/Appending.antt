@@ -20,7 +20,7 @@ front_written a b c done piece rest p f =
     let k = f.count in
     let here = done ++ take k piece in
     let whole : (done ++ piece) ++ rest ≡ here ++ (drop k piece ++ rest) =
-        ap (λ l. (done ++ l) ++ rest) (sym (take-append-drop k piece)) ∙ ap (λ l. l ++ rest) (sym (append_assoc done (take k piece) (drop k piece))) ∙ append_assoc here (drop k piece) rest in
+    ap (λ l. (done ++ l) ++ rest) (sym (take-append-drop k piece)) ∙ ap (λ l. l ++ rest) (sym (append_assoc done (take k piece) (drop k piece))) ∙ append_assoc here (drop k piece) rest in
     record {
       count = length here;
       appended = subst (Appends a c) (sym (ap (take (length here)) whole ∙ take_at here (drop k piece ++ rest) (length here) refl)) (both_written a b c done (take k piece) p f.appended);

@@ -6,3 +6,4 @@ pub mod Midway
 pub mod Moving
 pub mod Turning
 pub mod Appending
+pub mod Whole

@@ -6,14 +6,15 @@ use Rattle.preferences.specs.Policies.{policy_before}
 use Rattle.rack.specs.Steps.{Makes}
 use Rattle.rackfile.specs.declared.fault.FileFault.{FileFault}
 use Rattle.rackfile.specs.Files.{File, reading}
+use Rattle.rackfile.specs.Format.{Stands}
 use Rattle.playing.specs.declared.fault.PlayerFault.{PlayerFault}
 use Rattle.playing.specs.declared.fault.PlayerFault.TheVariants.{Unread}
 use Rattle.playing.specs.declared.opening.Play.{Play}
 
--- a file was read; its rack is made, with the points judge and the file's policy (and with it the claim over its whole life); its records are to be played
+-- the bytes stand for a file; its rack is made, with the points judge and the file's policy (and with it the claim over its whole life); its records are to be played
 pub record Began (input : List ℕ) (play : Play) : Type 0 where
   pub file : File
-  pub read : reading input ≡ Ok file
+  pub stands : Stands input file
   pub judge : Points
   pub made : Makes (λ _. least_good_point) policy_before file.processors judge file.policy play.rack
   pub records : play.records ≡ file.records

@@ -1,5 +1,5 @@
 -- The whole run: what is read and what is written. `had` and `held` are the bytes that the reader still has and that the writer holds, where they are known; a dash marks them afterwards.
-use Rattle.std.specs.Prelude.{◌≡◌, ℕ, ◌^◌, ◌<◌, true, List, length, Ok, Err, Option, Result}
+use Rattle.std.specs.Prelude.{◌≡◌, ℕ, ◌^◌, ◌<◌, true, List, length, Ok, Err, Result}
 use Rattle.std.specs.Io.KnownBytes.{Appends, Keeps}
 use Rattle.judges.specs.declared.points.Points.{Points}
 use Rattle.judges.specs.Meanings.{least_good_point}

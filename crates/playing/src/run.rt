@@ -50,6 +50,7 @@ fn play_fault<W: Write>(fault: PlayerFault, out: &mut W) -> io::Result<()>
 }
 
 // The text of an input.
+#[tactic(auto, using(crate::proofs::Whole::file_written, crate::proofs::Whole::fault_written))]
 fn write_text<W: Write>(input: &[u8], out: &mut W) -> io::Result<()>
     ensures { Writes (PlayerText input.now) (W.contents out.old) (W.contents out.new) result }
 {
@@ -62,6 +63,15 @@ fn write_text<W: Write>(input: &[u8], out: &mut W) -> io::Result<()>
     }
 }
 
+// The text of an input, through the buffer to the writer behind it.
+fn write_out<W: Write + Drop>(input: &[u8], out: &mut BufWriter<W>) -> io::Result<()>
+    ensures text { Writes (PlayerText input.now) (writer_contents W.contents out.old) (writer_contents W.contents out.new) result }
+    ensures flushed { OnOk result (writer_buffer out.new ≡ []) }
+{
+    write_text(input, out)?;
+    finish(out)
+}
+
 /// Plays a rack file: reads it from the reader, and writes its lines, or the line of its fault, and nothing else.
 ///
 /// At most 65,537 bytes are read, enough to tell that a file is too long.
@@ -69,6 +79,7 @@ fn write_text<W: Write>(input: &[u8], out: &mut W) -> io::Result<()>
 /// # Errors
 ///
 /// `Reading` and `Memory`: nothing was written. `Writing`: a front part of the text was.
+#[tactic(auto, using(crate::proofs::Whole::run_of))]
 pub fn play<R: Read, W: Write + Drop>(
     alloc: Global,
     reader: &mut R,
@@ -79,6 +90,5 @@ pub fn play<R: Read, W: Write + Drop>(
     ensures whole { OnOk result (IfSome (R.remaining reader.old) (λ file. WritesAll (PlayerText file) (writer_contents W.contents out.old) (writer_contents W.contents out.new))) }
 {
     let input = read_input(alloc, reader)?;
-    write_text(input.as_slice(), out).map_err(Halt::Writing)?;
-    finish(out).map_err(Halt::Writing)
+    write_out(input.as_slice(), out).map_err(Halt::Writing)
 }

@@ -1,5 +1,5 @@
-use Rattle.std.proofs.Common.{◌≡◌, ◌+◌, ℕ, List, [], ◌∷◌, ◌++◌, length, take, sym, ap, ◌∙◌, subst, inl, inr, arith}
-use Rattle.rackfile.specs.Records.{Seen, seen_as}
+use Rattle.std.proofs.Common.{◌≡◌, [], ◌∷◌, ◌++◌, length, take, sym, ap, ◌∙◌, subst, inl, inr, arith}
+use Rattle.rackfile.specs.Records.{seen_as}
 use Rattle.std.proofs.lemmas.Result.{err_from_is_err_and}
 use Rattle.book.specs.Book.{new_book}
 use Rattle.playing.specs.Lines.{Lines, blank_sheet}
@@ -16,11 +16,14 @@ loop-index-init g c =
     record {
       counts = omega (arith, from, ap length left);
       written = λ m judge policy made allowed.
-    let k = begun policy m c.args.records judge c.args.rack.now allowed made in
-    let sheet = 0 ∷ (0 ∷ (0 ∷ (0 ∷ (0 ∷ (0 ∷ (0 ∷ (0 ∷ (0 ∷ (0 ∷ (0 ∷ (0 ∷ (0 ∷ (0 ∷ (0 ∷ (0 ∷ []))))))))))))))) in
-    let there : Midway policy m c.args.records c.args.rack.now sheet 0 c.args.records [] = k in
-    ([], subst (λ n. Midway policy m c.args.records c.args.rack.now sheet n c.into_iter-index-iterator.result.b []) (sym from)
-        (subst (λ l. Midway policy m c.args.records c.args.rack.now sheet 0 l []) (sym left) there), nothing_more _);
+          let k = begun policy m c.args.records judge c.args.rack.now allowed made in
+          let sheet = 0 ∷ (0 ∷ (0 ∷ (0 ∷ (0 ∷ (0 ∷ (0 ∷ (0 ∷ (0 ∷ (0 ∷ (0 ∷ (0 ∷ (0 ∷ (0 ∷ (0 ∷ (0 ∷ []))))))))))))))) in
+          let there : Midway policy m c.args.records c.args.rack.now sheet 0 c.args.records [] = k in (
+            [],
+            subst (λ n. Midway policy m c.args.records c.args.rack.now sheet n c.into_iter-index-iterator.result.b []) (sym from)
+                (subst (λ l. Midway policy m c.args.records c.args.rack.now sheet 0 l []) (sym left) there),
+            nothing_more _,
+          );
     }
 
 pub loop-index-preserved : goal.loop-index-preserved
@@ -29,14 +32,13 @@ loop-index-preserved g c =
     record {
       counts = omega (arith, c.loop-index.invariant.counts, q.0.0, q.0.1, ap length q.1);
       written = λ m judge policy made allowed.
-    let (done, k, w) = c.loop-index.invariant.written m judge policy made allowed in
-    let line = take c.play_record-n.result c.play_record-n.new.out in
-    (
-      done ++ line,
-      turn policy m c.args.records c.loop-index.rack c.play_record-n.new.rack c.loop-index.sheet c.play_record-n.new.sheet c.loop-index.index-iterator.a.start c.next.new.self.a.start c.in-Some.index
-          (seen_as c.in-Some.record) c.loop-index.index-iterator.b c.next.new.self.b done c.loop-index.line c.play_record-n.new.out c.play_record-n.result k q.0 q.1 c.play_record-n.ensures.played,
-      both_written (g.W.Write.contents c.args.out.now) (g.W.Write.contents c.loop-index.out) (g.W.Write.contents c.put.new.writer) done line w c.in_ok-put.ensures,
-    );
+          let (done, k, w) = c.loop-index.invariant.written m judge policy made allowed in
+          let line = take c.play_record-n.result c.play_record-n.new.out in (
+            done ++ line,
+            turn policy m c.args.records c.loop-index.rack c.play_record-n.new.rack c.loop-index.sheet c.play_record-n.new.sheet c.loop-index.index-iterator.a.start c.next.new.self.a.start c.in-Some.index
+                (seen_as c.in-Some.record) c.loop-index.index-iterator.b c.next.new.self.b done c.loop-index.line c.play_record-n.new.out c.play_record-n.result k q.0 q.1 c.play_record-n.ensures.played,
+            both_written (g.W.Write.contents c.args.out.now) (g.W.Write.contents c.loop-index.out) (g.W.Write.contents c.put.new.writer) done line w c.in_ok-put.ensures,
+          );
     }
 
 pub returns-in_err-put : goal.returns-in_err-put
@@ -45,11 +47,11 @@ returns-in_err-put g c = λ m judge policy made allowed few.
     let line = take c.play_record-n.result c.play_record-n.new.out in
     let q = c.in-Some.ensures.steps in
     let after = turn policy m c.args.records c.loop-index.rack c.play_record-n.new.rack c.loop-index.sheet c.play_record-n.new.sheet c.loop-index.index-iterator.a.start c.next.new.self.a.start c.in-Some.index
-        (seen_as c.in-Some.record) c.loop-index.index-iterator.b c.next.new.self.b done c.loop-index.line c.play_record-n.new.out c.play_record-n.result k q.0 q.1 c.play_record-n.ensures.played in
+    (seen_as c.in-Some.record) c.loop-index.index-iterator.b c.next.new.self.b done c.loop-index.line c.play_record-n.new.out c.play_record-n.result k q.0 q.1 c.play_record-n.ensures.played in
     let (rest, all) = front policy m c.args.records c.play_record-n.new.rack c.play_record-n.new.sheet c.next.new.self.a.start (done ++ line) c.next.new.self.b after in
     let e = err_from_is_err_and c.from_residual.result c.from_residual.ensures.1 in
     subst (λ r. Writes (Lines policy (new_book m) blank_sheet 0 c.args.records) (g.W.Write.contents c.args.out.now) (g.W.Write.contents c.put.new.writer) r) (sym e.1)
-        ((done ++ line) ++ rest, all, front_written (g.W.Write.contents c.args.out.now) (g.W.Write.contents c.loop-index.out) (g.W.Write.contents c.put.new.writer) done line rest w c.in_err-put.ensures)
+    ((done ++ line) ++ rest, all, front_written (g.W.Write.contents c.args.out.now) (g.W.Write.contents c.loop-index.out) (g.W.Write.contents c.put.new.writer) done line rest w c.in_err-put.ensures)
 
 pub returns : goal.returns
 returns g c = λ m judge policy made allowed few.
@@ -57,6 +59,9 @@ returns g c = λ m judge policy made allowed few.
     let none : c.loop-index.index-iterator.b ≡ [] = elim c.in-None.ensures.steps [
       | inl far ↦ absurd (omega (arith, far.1.0, few, c.loop-index.invariant.counts))
       | inr end ↦ end.1.0
-    ] in
-    (done, ended policy m c.args.records c.loop-index.rack c.loop-index.sheet c.loop-index.index-iterator.a.start done
-        (subst (λ l. Midway policy m c.args.records c.loop-index.rack c.loop-index.sheet c.loop-index.index-iterator.a.start l done) none k), w)
+    ] in (
+      done,
+      ended policy m c.args.records c.loop-index.rack c.loop-index.sheet c.loop-index.index-iterator.a.start done
+          (subst (λ l. Midway policy m c.args.records c.loop-index.rack c.loop-index.sheet c.loop-index.index-iterator.a.start l done) none k),
+      w,
+    )
