@@ -13,8 +13,8 @@ use Rattle.rackfile.specs.Reading.{too_long}
 use Rattle.rackfile.specs.Files.{File, cut, judging, reading}
 use Rattle.rackfile.specs.Format.{Stands}
 use Rattle.rackfile.specs.Exact.{AreBytes}
-use Rattle.rackfile.specs.FaultLaws.{IsShown, FaultsStay, EndsField, FaultsShow, HasFault, TrailingExactly, Settled, CouldGoOn, CutExactly, TooLongExactly}
-use Rattle.rackfile.proofs.Judging.{Long, Short, Judged, Behind, FaultGrows, JudgingGrows, judging_grows, cut_is_short}
+use Rattle.rackfile.specs.FaultLaws.{IsShown, FaultsStay, EndsLabel, EndsField, FaultsShow, HasFault, TrailingExactly, Settled, CouldGoOn, CutExactly, TooLongExactly}
+use Rattle.rackfile.proofs.Judging.{Long, Short, Judged, Behind, FaultGrows, JudgingGrows, file_end, judging_grows, cut_is_short, label_ends}
 use Rattle.rackfile.proofs.Standing.{stands, reads}
 
 reading_judges : (input : List ℕ) → length input ≤ 65536 → reading input ≡ judging input
@@ -29,43 +29,43 @@ judged_so input f e other = go (too_long input) refl e
     go false q h = (h, ltb-false 65536 (length input) q)
 
 -- a judgement and what it comes to with bytes behind
-grown : (input more : List ℕ) (r q : Judged) → judging input ≡ r → judging (input ++ more) ≡ q → JudgingGrows (length input) more r q
-grown input more r q e k = subst (λ x. JudgingGrows (length input) more r x) k (subst (λ x. JudgingGrows (length input) more x (judging (input ++ more))) e (judging_grows input more))
+grown : (input more : List ℕ) (r q : Judged) → judging input ≡ r → judging (input ++ more) ≡ q → JudgingGrows (file_end (input ++ more)) (length input) more r q
+grown input more r q e k = subst (JudgingGrows (file_end (input ++ more)) (length input) more r) k (subst (λ x. JudgingGrows (file_end (input ++ more)) (length input) more x (judging (input ++ more))) e (judging_grows input more))
 
-stay : (f : FileFault) (l : ℕ) (r : Judged) → FaultGrows l f r → 13 ≤ number_of f → (r ≡ Err f) × Long f l
-stay (Record (Bytes TooLong)) l r g h = absurd g
-stay (Record (Bytes (Cut p))) l r g h = absurd (omega arith)
-stay (Record (Bytes (Trailing p))) l r g h = g
-stay (Record (Tag p)) l r g h = g
-stay (Record (Label p)) l r g h = g
-stay Mark l r g h = g
-stay Version l r g h = g
-stay Policy l r g h = g
-stay Processors l r g h = g
+stay : (f : FileFault) (end l : ℕ) (r : Judged) → FaultGrows end l f r → 13 ≤ number_of f → (r ≡ Err f) × Long f end l
+stay (Record (Bytes TooLong)) end l r g h = absurd g
+stay (Record (Bytes (Cut p))) end l r g h = absurd (omega arith)
+stay (Record (Bytes (Trailing p))) end l r g h = g
+stay (Record (Tag p)) end l r g h = g
+stay (Record (Label p)) end l r g h = g
+stay Mark end l r g h = g
+stay Version end l r g h = g
+stay Policy end l r g h = g
+stay Processors end l r g h = g
 
 judged_stays : (input more : List ℕ) (f : FileFault) → judging input ≡ Err f → 13 ≤ number_of f → judging (input ++ more) ≡ Err f
-judged_stays input more f e h = (stay f (length input) (judging (input ++ more)) (grown input more (Err f) (judging (input ++ more)) e refl) h).0
+judged_stays input more f e h = (stay f (file_end (input ++ more)) (length input) (judging (input ++ more)) (grown input more (Err f) (judging (input ++ more)) e refl) h).0
 
 pub faults_stay : FaultsStay
 faults_stay input more f e low high short = reading_judges (input ++ more) short ∙ judged_stays input more f (judged_so input f e (λ k. omega arith)).0 low
 
 -- The front of an input that has a fault of 13 to 17: it is cut, or has the fault, or is a file.
 
-front_fault : (g f : FileFault) (k : ℕ) → FaultGrows k g (Err f) → ((g ≡ cut k) × Short f k) ⊎ ((g ≡ f) × Long f k)
-front_fault (Record (Bytes TooLong)) f k h = absurd h
-front_fault (Record (Bytes (Cut p))) f k h = inl (ap cut h.0, h.1)
-front_fault (Record (Bytes (Trailing p))) f k h = let e : Record (Bytes (Trailing p)) ≡ f = cc in inr (e, subst (λ x. Long x k) e h.1)
-front_fault (Record (Tag p)) f k h = let e : Record (Tag p) ≡ f = cc in inr (e, subst (λ x. Long x k) e h.1)
-front_fault (Record (Label p)) f k h = let e : Record (Label p) ≡ f = cc in inr (e, subst (λ x. Long x k) e h.1)
-front_fault Mark f k h = let e : Mark ≡ f = cc in inr (e, subst (λ x. Long x k) e h.1)
-front_fault Version f k h = let e : Version ≡ f = cc in inr (e, subst (λ x. Long x k) e h.1)
-front_fault Policy f k h = let e : Policy ≡ f = cc in inr (e, subst (λ x. Long x k) e h.1)
-front_fault Processors f k h = let e : Processors ≡ f = cc in inr (e, subst (λ x. Long x k) e h.1)
+front_fault : (g f : FileFault) (end k : ℕ) → FaultGrows end k g (Err f) → ((g ≡ cut k) × Short f end k) ⊎ ((g ≡ f) × Long f end k)
+front_fault (Record (Bytes TooLong)) f end k h = absurd h
+front_fault (Record (Bytes (Cut p))) f end k h = inl (ap cut h.0, h.1)
+front_fault (Record (Bytes (Trailing p))) f end k h = let e : Record (Bytes (Trailing p)) ≡ f = cc in inr (e, subst (λ x. Long x end k) e h.1)
+front_fault (Record (Tag p)) f end k h = let e : Record (Tag p) ≡ f = cc in inr (e, subst (λ x. Long x end k) e h.1)
+front_fault (Record (Label p)) f end k h = let e : Record (Label p) ≡ f = cc in inr (e, subst (λ x. Long x end k) e h.1)
+front_fault Mark f end k h = let e : Mark ≡ f = cc in inr (e, subst (λ x. Long x end k) e h.1)
+front_fault Version f end k h = let e : Version ≡ f = cc in inr (e, subst (λ x. Long x end k) e h.1)
+front_fault Policy f end k h = let e : Policy ≡ f = cc in inr (e, subst (λ x. Long x end k) e h.1)
+front_fault Processors f end k h = let e : Processors ≡ f = cc in inr (e, subst (λ x. Long x end k) e h.1)
 
 abbrev Front : List ℕ → FileFault → ℕ → Type 0
 Front input f k =
-    ((judging (take k input) ≡ Err (cut k)) × Short f k)
-    ⊎ (((judging (take k input) ≡ Err f) × Long f k)
+    ((judging (take k input) ≡ Err (cut k)) × Short f (file_end input) k)
+    ⊎ (((judging (take k input) ≡ Err f) × Long f (file_end input) k)
     ⊎ ((g : File) × (judging (take k input) ≡ Ok g) × (f ≡ Record (Bytes (Trailing k)))))
 
 front : (input : List ℕ) (f : FileFault) (k : ℕ) → judging input ≡ Err f → k ≤ length input → Front input f k
@@ -84,7 +84,8 @@ front input f k e h = go (judging (take k input)) refl
         inr (inr (g, q, behind (drop k input) g (subst (λ l. Behind l (drop k input) g (Err f)) long (grown (take k input) (drop k input) (Ok g) (Err f) q it))))
     go (Err g) q =
         let long = length-take-le k input h in
-        elim (front_fault g f k (subst (λ l. FaultGrows l g (Err f)) long (grown (take k input) (drop k input) (Err g) (Err f) q it))) [
+        let end = ap file_end (take-append-drop k input) in
+        elim (front_fault g f (file_end input) k (subst (λ e. FaultGrows e k g (Err f)) end (subst (λ l. FaultGrows (file_end (take k input ++ drop k input)) l g (Err f)) long (grown (take k input) (drop k input) (Err g) (Err f) q it)))) [
           | inl x ↦ inl (q ∙ ap (λ z. Err z) x.0, x.1)
           | inr x ↦ inr (inl (q ∙ ap (λ z. Err z) x.0, x.1))
         ]
@@ -119,16 +120,19 @@ first input f e shown (suc k) h it = go (front input f k e (omega arith)) (λ q.
     go (inr (inl x)) again = again x.0
     go (inr (inr x)) again = absurd (let n = ap number_of x.2 in let high = shown.1 in omega arith)
 
-ends : (f : FileFault) (end : ℕ) → IsShown f → Long f end → (0 < end → Short f (end - 1)) → EndsField f end
-ends (Record (Bytes TooLong)) end h long short = absurd long
-ends (Record (Bytes (Cut p))) end h long short = absurd long
-ends (Record (Bytes (Trailing p))) end h long short = absurd (omega (arith, h.1))
-ends (Record (Tag p)) end h long short = let s = short (omega arith) in omega arith
-ends (Record (Label p)) end h long short = let s = short (omega arith) in (long, omega arith)
-ends Mark end h long short = let s = short (omega arith) in omega arith
-ends Version end h long short = let s = short (omega arith) in omega arith
-ends Policy end h long short = let s = short (omega arith) in omega arith
-ends Processors end h long short = let s = short (omega arith) in omega arith
+ends : (input : List ℕ) (f : FileFault) (end : ℕ) → judging input ≡ Err f → IsShown f → Long f (file_end input) end → (0 < end → Short f (file_end input) (end - 1)) → EndsField input f end
+ends input (Record (Bytes TooLong)) end e h long short = absurd long
+ends input (Record (Bytes (Cut p))) end e h long short = absurd long
+ends input (Record (Bytes (Trailing p))) end e h long short = absurd (omega (arith, h.1))
+ends input (Record (Tag p)) end e h long short = let s = short (omega arith) in omega arith
+ends input (Record (Label p)) end e h long short =
+    let s = short (omega (arith, long.0, long.1)) in
+    let same : file_end input ≡ end = omega (arith, long.1) in
+    subst (EndsLabel input p) same (label_ends input p e)
+ends input Mark end e h long short = let s = short (omega arith) in omega arith
+ends input Version end e h long short = let s = short (omega arith) in omega arith
+ends input Policy end e h long short = let s = short (omega arith) in omega arith
+ends input Processors end e h long short = let s = short (omega arith) in omega arith
 
 pub faults_show : FaultsShow
 faults_show input f e shown =
@@ -137,22 +141,25 @@ faults_show input f e shown =
     let short = λ (k : ℕ) (le : k ≤ length input). let long = length-take-le k input le in reading_judges (take k input) (omega (arith, j.1)) in (
       one.end,
       record {
-        field = ends f one.end shown (is_long one) (λ pos. is_short one j.0 pos);
+        field = ends input f one.end j.0 shown (is_long one j.0) (λ pos. is_short one j.0 pos);
         within = one.within;
         behind = λ k le. behind one j.0 j.1 k le;
         before = λ k l. short k (omega (arith, one.within)) ∙ one.before k l;
       },
     )
   where
-    is_long : (one : First input f) → Long f one.end
-    is_long one =
-        let g = grown (take one.end input) [] (Err f) (judging (take one.end input ++ [])) one.there refl in
-        subst (Long f) (length-take-le one.end input one.within) (stay f (length (take one.end input)) _ g shown.0).1
+    is_long : (one : First input f) → judging input ≡ Err f → Long f (file_end input) one.end
+    is_long one e = go (front input f one.end e one.within)
+      where
+        go : Front input f one.end → Long f (file_end input) one.end
+        go (inl x) = absurd (not_cut f one.end (sym one.there ∙ x.0) shown.0)
+        go (inr (inl x)) = x.1
+        go (inr (inr x)) = absurd (let n = ap number_of x.2 in let high = shown.1 in omega arith)
 
-    is_short : (one : First input f) → judging input ≡ Err f → 0 < one.end → Short f (one.end - 1)
+    is_short : (one : First input f) → judging input ≡ Err f → 0 < one.end → Short f (file_end input) (one.end - 1)
     is_short one e pos = go (front input f (one.end - 1) e (omega (arith, one.within)))
       where
-        go : Front input f (one.end - 1) → Short f (one.end - 1)
+        go : Front input f (one.end - 1) → Short f (file_end input) (one.end - 1)
         go (inl x) = x.1
         go (inr (inl x)) = absurd (not_cut f (one.end - 1) (sym x.0 ∙ one.before (one.end - 1) (omega arith)) shown.0)
         go (inr (inr x)) = absurd (let n = ap number_of x.2 in let high = shown.1 in omega arith)
@@ -176,7 +183,7 @@ trailing_is Processors h = absurd (omega arith)
 file_before : (input : List ℕ) (p : ℕ) → judging input ≡ Err (Record (Bytes (Trailing p))) → (p < length input) × (g : File) × (judging (take p input) ≡ Ok g)
 file_before input p e =
     let f = Record (Bytes (Trailing p)) in
-    let less = (stay f (length input) _ (grown input [] (Err f) (judging (input ++ [])) e refl) (omega arith)).1 in
+    let less = (stay f (file_end (input ++ [])) (length input) _ (grown input [] (Err f) (judging (input ++ [])) e refl) (omega arith)).1 in
     let found = go (front input f p e (omega arith)) in
     (less, found.0, found.1)
   where
@@ -222,7 +229,7 @@ too_long_exactly input = (λ h. above h.0 h.2 h.1, λ h. (Record (Bytes TooLong)
     never : (f : FileFault) → number_of f ≡ 11 → judging input ≡ Err f → ⊥
     never f n e = go f n (grown input [] (Err f) (judging (input ++ [])) e refl)
       where
-        go : (g : FileFault) → number_of g ≡ 11 → FaultGrows (length input) g (judging (input ++ [])) → ⊥
+        go : (g : FileFault) → number_of g ≡ 11 → FaultGrows (file_end (input ++ [])) (length input) g (judging (input ++ [])) → ⊥
         go (Record (Bytes TooLong)) k h = h
         go (Record (Bytes (Cut p))) k h = omega arith
         go (Record (Bytes (Trailing p))) k h = omega arith
@@ -265,7 +272,7 @@ could_go_on input (more, b, settled, differs) = go (judging input) refl (judging
     trailing g [] r h s d = d h
     trailing g (a ∷ n) r h s d = absurd (let t = subst Settled h s in omega (arith, t.1))
 
-    fault : (f : FileFault) (r : Judged) → FaultGrows (length input) f r → (r ≡ Err f → ⊥) → f ≡ cut (length input)
+    fault : (f : FileFault) (r : Judged) → FaultGrows (file_end (input ++ more)) (length input) f r → (r ≡ Err f → ⊥) → f ≡ cut (length input)
     fault (Record (Bytes TooLong)) r h d = absurd h
     fault (Record (Bytes (Cut p))) r h d = ap cut h.0
     fault (Record (Bytes (Trailing p))) r h d = absurd (d h.0)
@@ -304,7 +311,7 @@ padded n input enough b e = go (judging (input ++ replicate n 0)) refl
         let it = ap judging (same ∙ ap (λ k. take k (input ++ replicate n 0)) at) ∙ q in
         (take m (replicate n 0), All-take (λ z. z < 256) m (replicate n 0) zeros, subst Settled (sym it) tt, λ z. let h = sym it ∙ z ∙ e in cc)
 
-    fault : (f : FileFault) → judging (input ++ replicate n 0) ≡ Err f → FaultGrows (length (input ++ replicate n 0)) f (judging ((input ++ replicate n 0) ++ [])) → Short f (length input) → CouldGoOn input
+    fault : (f : FileFault) → judging (input ++ replicate n 0) ≡ Err f → FaultGrows (file_end ((input ++ replicate n 0) ++ [])) (length (input ++ replicate n 0)) f (judging ((input ++ replicate n 0) ++ [])) → Short f (file_end (input ++ replicate n 0)) (length input) → CouldGoOn input
     fault (Record (Bytes TooLong)) q g s = absurd g
     fault (Record (Bytes (Cut p))) q g s = absurd (omega (arith, cut_is_short (input ++ replicate n 0) p bytes q, long))
     fault (Record (Bytes (Trailing p))) q g s = let found = file_before (input ++ replicate n 0) p q in file p found.1 s found.2

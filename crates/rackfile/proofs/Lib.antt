@@ -4,6 +4,7 @@ pub mod RecordBytes
 pub mod Headers
 pub mod Standing
 pub mod Labels
+pub mod Placing
 pub mod Growing
 pub mod Judging
 pub mod FaultLaws

@@ -1,9 +1,10 @@
 -- Laws above the faults: what more bytes, and fewer, do to them.
-use Rattle.std.specs.Prelude.{◌≡◌, ℕ, ◌+◌, ◌^◌, ◌<◌, ◌≤◌, true, ◌↔◌, List, ◌++◌, length, take, Ok, Err, Result, ◌≢◌}
+use Rattle.std.specs.Prelude.{◌≡◌, ℕ, ◌+◌, ◌^◌, ◌<◌, ◌≤◌, true, cond, ◌↔◌, List, ◌++◌, length, take, slice_index, Ok, Err, Result, ◌≢◌}
 use Rattle.rackfile.specs.declared.fault.RecordFault.TheVariants.{Bytes, Tag, Label}
 use Rattle.rackfile.specs.declared.fault.FileFault.{FileFault}
 use Rattle.rackfile.specs.declared.fault.FileFault.TheVariants as fault
 use Rattle.rackfile.specs.Faults.{number_of, place_of}
+use Rattle.rackfile.specs.Records.{length_allowed}
 use Rattle.rackfile.specs.Files.{File, cut, processors_allowed, judging, reading}
 use Rattle.rackfile.specs.Format.{file_bytes, all_allowed, all_placed, Stands}
 use Rattle.rackfile.specs.Exact.{AreBytes}
@@ -16,20 +17,32 @@ IsShown f = (13 ≤ number_of f) × (number_of f ≤ 16)
 abbrev pub FaultsStay : Type 0
 FaultsStay = (input more : List ℕ) (f : FileFault) → reading input ≡ Err f → 13 ≤ number_of f → number_of f ≤ 17 → length (input ++ more) ≤ 65536 → reading (input ++ more) ≡ Err f
 
+-- so many bytes of text belong to a label whose length says n: a length that is not allowed is shown at once
+abbrev pub text_length : ℕ → ℕ
+text_length n = cond (length_allowed n) n 0
+
+-- A label with a fault at a place: an admission begins at `start` with its tag A, the label's length stands 13 bytes on, and its text behind that.
+pub record EndsLabel (input : List ℕ) (place end : ℕ) : Type 0 where
+  pub start : ℕ
+  pub admission : slice_index input start ≡ 65
+  pub label : start + 13 ≤ place
+  pub fault : place < end
+  pub text : end ≡ start + 14 + text_length (slice_index input (start + 13))
+
 -- where the field ends that shows a fault
-abbrev pub EndsField : FileFault → ℕ → Type 0
-EndsField fault.Mark end = end ≡ 3
-EndsField fault.Version end = end ≡ 5
-EndsField fault.Policy end = end ≡ 6
-EndsField fault.Processors end = end ≡ 7
-EndsField (fault.Record (Tag place)) end = end ≡ place + 1
-EndsField (fault.Record (Label place)) end = (place < end) × (end ≤ place + 16)
-EndsField (fault.Record (Bytes e)) end = ⊥
+abbrev pub EndsField : List ℕ → FileFault → ℕ → Type 0
+EndsField input fault.Mark end = end ≡ 3
+EndsField input fault.Version end = end ≡ 5
+EndsField input fault.Policy end = end ≡ 6
+EndsField input fault.Processors end = end ≡ 7
+EndsField input (fault.Record (Tag place)) end = end ≡ place + 1
+EndsField input (fault.Record (Label place)) end = EndsLabel input place end
+EndsField input (fault.Record (Bytes e)) end = ⊥
 
 -- A fault of 13 to 16 is there as soon as the field that shows it is whole: an input that is cut behind the field has the same fault, and
 -- one that is cut before the field's end is 12 there.
 pub record ShownFrom (input : List ℕ) (f : FileFault) (end : ℕ) : Type 0 where
-  pub field : EndsField f end
+  pub field : EndsField input f end
   pub within : end ≤ length input
   pub behind : (k : ℕ) → end ≤ k → reading (take k input) ≡ Err f
   pub before : (k : ℕ) → k < end → reading (take k input) ≡ Err (cut k)
