@@ -1,7 +1,7 @@
 -- Reading a record, and reading it again with more bytes behind: what has been read stays, a fault of what was read stays, and a cut is
 -- followed by nothing that stands before it.
 use Rattle.std.proofs.Common.{◌≡◌, ℕ, zero, suc, ◌+◌, ◌*◌, ◌<◌, ◌≤◌, Bool, true, false, cond, eqb, leb, List, [], ◌∷◌, ◌++◌, length, take, drop, Some, None, Ok, Err, Option, Result, sym, refl, ap, ◌∙◌, subst, arith}
-use Rattle.std.proofs.lemmas.List.{length-append, length-drop, take-append-le, drop-append-le, length-take-le}
+use Rattle.std.proofs.lemmas.List.{length-append, length-drop, take-append-le, drop-append-le}
 use Rattle.std.proofs.lemmas.Bool.{and_parts, leb-true, leb-false}
 use Rattle.rackfile.specs.declared.fault.BytesFault.TheVariants.{Cut}
 use Rattle.rackfile.specs.declared.fault.RecordFault.{RecordFault}
@@ -10,7 +10,7 @@ use Rattle.rackfile.specs.Reading.{place_in, field, take_byte, take_word}
 use Rattle.rackfile.specs.Records.{Seen, first_bad, length_allowed, then, next, judged, read_text, read_label, read_admission, read_withdrawal, read_record}
 use Rattle.rackfile.specs.Files.{read_records}
 use Rattle.rackfile.specs.FaultLaws.{text_length}
-use Rattle.rackfile.proofs.Placing.{label_end, Placed, Took, byte_took, word_took, word_rest, four_more, allowed_text, no_text, text_placed, label_placed, withdrawal_placed, behind_work, behind_number, work_placed, number_placed, admission_placed, record_placed, records_placed, failing_in, failing}
+use Rattle.rackfile.proofs.Placing.{label_end, Placed, Took, word_took, word_rest, four_more, allowed_text, text_placed, label_placed, withdrawal_placed, behind_work, behind_number, work_placed, number_placed, admission_placed, record_placed, records_placed, failing_in, failing}
 
 -- What may come of bytes whose front, of length `whole`, is cut: the cut field and what follows it reach into the bytes behind, and a fault
 -- stands there, or in a label that ends there.
@@ -109,7 +109,7 @@ text_grows whole n more s is w = rw (same_place whole more s) (go (leb n (length
   where
     go : (t u : Bool) → leb n (length s) ≡ t → leb n (length (s ++ more)) ≡ u
         → Grows whole more (n ∷ s) (n ∷ (s ++ more)) (then Bytes (field whole (cond t (Some (take n s, drop n s)) None)) (λ x. judged (place_in whole s) x (first_bad x.0)))
-            (then Bytes (field (whole + length more) (cond u (Some (take n (s ++ more), drop n (s ++ more))) None)) (λ x. judged (place_in whole s) x (first_bad x.0)))
+        (then Bytes (field (whole + length more) (cond u (Some (take n (s ++ more), drop n (s ++ more))) None)) (λ x. judged (place_in whole s) x (first_bad x.0)))
     go true true q h =
         let fits = leb-true n (length s) q in
         rw (take-append-le n s more fits, drop-append-le n s more fits) (judged_grows whole (place_in whole s) more (n ∷ s) (take n s) (drop n s) (first_bad (take n s)))
@@ -143,23 +143,23 @@ work_grows : (number work whole : ℕ) (more s : List ℕ) → length s ≤ whol
 work_grows number work whole more s w =
     let all = whole + length more in
     then_grows 4 whole more s (drop 4 s) (drop 4 (s ++ more)) (take_word s) (take_word (s ++ more)) _ _ (word_took s) (word_grew more s)
-      (λ t e f l. moved whole more t.1 (drop 4 s) (t.1 ++ more) (drop 4 (s ++ more)) _ _ (word_rest s t e) (word_rest (s ++ more) (t.0, t.1 ++ more) f)
-        (next_grows 17 whole more t.1 t.1 (t.1 ++ more) (read_label whole t.1) (read_label all (t.1 ++ more)) _ _ (label_placed whole t.1 (omega arith)) (label_grows whole more t.1 (omega arith)) (λ x k. refl) (λ x k. k)))
-      (λ t f l. next_later whole more (drop 4 (s ++ more)) (read_label all t.1) _ (subst (λ label. Later whole more label (read_label all t.1)) (word_rest (s ++ more) t f) (within 17 whole more t.1 t.1 (read_label all t.1) l (label_placed all t.1))) (λ x k. k))
+    (λ t e f l. moved whole more t.1 (drop 4 s) (t.1 ++ more) (drop 4 (s ++ more)) _ _ (word_rest s t e) (word_rest (s ++ more) (t.0, t.1 ++ more) f)
+    (next_grows 17 whole more t.1 t.1 (t.1 ++ more) (read_label whole t.1) (read_label all (t.1 ++ more)) _ _ (label_placed whole t.1 (omega arith)) (label_grows whole more t.1 (omega arith)) (λ x k. refl) (λ x k. k)))
+    (λ t f l. next_later whole more (drop 4 (s ++ more)) (read_label all t.1) _ (subst (λ label. Later whole more label (read_label all t.1)) (word_rest (s ++ more) t f) (within 17 whole more t.1 t.1 (read_label all t.1) l (label_placed all t.1))) (λ x k. k))
 
 number_grows : (number whole : ℕ) (more s : List ℕ) → length s ≤ whole → Grows whole more (drop 8 s) (drop 8 (s ++ more)) (behind_number number whole s) (behind_number number (whole + length more) (s ++ more))
 number_grows number whole more s w =
     let all = whole + length more in
     then_grows 4 whole more s (drop 8 s) (drop 8 (s ++ more)) (take_word s) (take_word (s ++ more)) _ _ (word_took s) (word_grew more s)
-      (λ c e f l. moved whole more (drop 4 c.1) (drop 8 s) (drop 4 (c.1 ++ more)) (drop 8 (s ++ more)) _ _ (four_more 4 8 s c e refl) (four_more 4 8 (s ++ more) (c.0, c.1 ++ more) f refl) (work_grows number c.0 whole more c.1 (omega arith)))
-      (λ c f l. subst (λ label. Later whole more label (behind_work number c.0 all c.1)) (four_more 4 8 (s ++ more) c f refl) (within 21 whole more (drop 4 c.1) c.1 (behind_work number c.0 all c.1) l (work_placed number c.0 all c.1)))
+    (λ c e f l. moved whole more (drop 4 c.1) (drop 8 s) (drop 4 (c.1 ++ more)) (drop 8 (s ++ more)) _ _ (four_more 4 8 s c e refl) (four_more 4 8 (s ++ more) (c.0, c.1 ++ more) f refl) (work_grows number c.0 whole more c.1 (omega arith)))
+    (λ c f l. subst (λ label. Later whole more label (behind_work number c.0 all c.1)) (four_more 4 8 (s ++ more) c f refl) (within 21 whole more (drop 4 c.1) c.1 (behind_work number c.0 all c.1) l (work_placed number c.0 all c.1)))
 
 admission_grows : (whole : ℕ) (more s : List ℕ) → length s ≤ whole → Grows whole more (drop 12 s) (drop 12 (s ++ more)) (read_admission whole s) (read_admission (whole + length more) (s ++ more))
 admission_grows whole more s w =
     let all = whole + length more in
     then_grows 4 whole more s (drop 12 s) (drop 12 (s ++ more)) (take_word s) (take_word (s ++ more)) _ _ (word_took s) (word_grew more s)
-      (λ n e f l. moved whole more (drop 8 n.1) (drop 12 s) (drop 8 (n.1 ++ more)) (drop 12 (s ++ more)) _ _ (four_more 8 12 s n e refl) (four_more 8 12 (s ++ more) (n.0, n.1 ++ more) f refl) (number_grows n.0 whole more n.1 (omega arith)))
-      (λ n f l. subst (λ label. Later whole more label (behind_number n.0 all n.1)) (four_more 8 12 (s ++ more) n f refl) (within 25 whole more (drop 8 n.1) n.1 (behind_number n.0 all n.1) l (number_placed n.0 all n.1)))
+    (λ n e f l. moved whole more (drop 8 n.1) (drop 12 s) (drop 8 (n.1 ++ more)) (drop 12 (s ++ more)) _ _ (four_more 8 12 s n e refl) (four_more 8 12 (s ++ more) (n.0, n.1 ++ more) f refl) (number_grows n.0 whole more n.1 (omega arith)))
+    (λ n f l. subst (λ label. Later whole more label (behind_number n.0 all n.1)) (four_more 8 12 (s ++ more) n f refl) (within 25 whole more (drop 8 n.1) n.1 (behind_number n.0 all n.1) l (number_placed n.0 all n.1)))
 
 -- a record whose first byte is among those behind
 record_within : (whole : ℕ) (more : List ℕ) → Later whole more (drop 13 more) (read_record (whole + length more) more)
@@ -199,13 +199,13 @@ records_grow whole (suc n) more s w =
     go : ((t : List ℕ) → length t ≤ whole → Grows whole more (drop 13 (failing whole n t)) (drop 13 (failing (whole + length more) n (t ++ more))) (read_records whole n t) (read_records (whole + length more) n (t ++ more)))
         → (r q : Result (Seen × List ℕ) RecordFault) → Placed 30 whole (drop 13 s) s r → Grows whole more (drop 13 s) (drop 13 (s ++ more)) r q
         → Grows whole more (drop 13 (failing_in r s (λ t. failing whole n t))) (drop 13 (failing_in q (s ++ more) (λ t. failing (whole + length more) n t)))
-            (next r (λ x. next (read_records whole n x.1) (λ y. Ok (x.0 ∷ y.0, y.1)))) (next q (λ x. next (read_records (whole + length more) n x.1) (λ y. Ok (x.0 ∷ y.0, y.1))))
+        (next r (λ x. next (read_records whole n x.1) (λ y. Ok (x.0 ∷ y.0, y.1)))) (next q (λ x. next (read_records (whole + length more) n x.1) (λ y. Ok (x.0 ∷ y.0, y.1))))
     go ih (Ok x) q p g =
         let all = whole + length more in
         subst (λ z. Grows whole more (drop 13 (failing whole n x.1)) (drop 13 (failing_in z (s ++ more) (λ t. failing (whole + length more) n t)))
-            (next (read_records whole n x.1) (λ y. Ok (x.0 ∷ y.0, y.1))) (next z (λ x. next (read_records (whole + length more) n x.1) (λ y. Ok (x.0 ∷ y.0, y.1))))) (sym g)
+        (next (read_records whole n x.1) (λ y. Ok (x.0 ∷ y.0, y.1))) (next z (λ x. next (read_records (whole + length more) n x.1) (λ y. Ok (x.0 ∷ y.0, y.1))))) (sym g)
         (next_grows (30 * n) whole more x.1 (drop 13 (failing whole n x.1)) (drop 13 (failing all n (x.1 ++ more))) (read_records whole n x.1) (read_records all n (x.1 ++ more)) _ _ (records_placed whole n x.1 (omega (arith, p.0))) (ih x.1 (omega (arith, p.0))) (λ y k. refl) (λ y k. k))
     go ih (Err (Bytes e)) q p g = (g.0, later q g.1)
     go ih (Err (Tag at)) q p g = ap (λ r. next r (λ x. next (read_records (whole + length more) n x.1) (λ y. Ok (x.0 ∷ y.0, y.1)))) g
     go ih (Err (Label at)) q p g =
-      (ap (λ r. next r (λ x. next (read_records (whole + length more) n x.1) (λ y. Ok (x.0 ∷ y.0, y.1)))) g.0, ap (λ r. drop 13 (failing_in r (s ++ more) (λ t. failing (whole + length more) n t))) g.0 ∙ g.1)
+        (ap (λ r. next r (λ x. next (read_records (whole + length more) n x.1) (λ y. Ok (x.0 ∷ y.0, y.1)))) g.0, ap (λ r. drop 13 (failing_in r (s ++ more) (λ t. failing (whole + length more) n t))) g.0 ∙ g.1)

@@ -253,7 +253,7 @@ judging_grows input more = go (header_fault (length input) input) (header_fault 
         let s = drop 9 all in
         let rest : length all ≡ 9 + length s = omega (arith, length-drop 9 all, header_long all e) in
         header_cut (length input) (30 * n) (length all) (file_label all) s (policy_named (get_or all 5 0)) (get_or all 6 0) (read_records (length all) n s) (header_named (length all) all e) short rest
-          (records_placed (length all) n s (omega arith))
+        (records_placed (length all) n s (omega arith))
 
     whole : 9 ≤ length input → JudgingGrows (file_end (input ++ more)) (length input) more (with_header input None) (with_header (input ++ more) None)
     whole long =
@@ -271,7 +271,7 @@ judging_grows input more = go (header_fault (length input) input) (header_fault 
         subst (λ k. JudgingGrows k l more (with_header input None) (with_header all None)) (sym end)
         (subst (JudgingGrows (label_end (l + length more) (drop 13 (failing (l + length more) n (s ++ more)))) l more (with_header input None)) (sym same)
         (with_records_grows l (30 * n) more (file_label input) (drop 13 (failing (l + length more) n (s ++ more))) s (policy_named (get_or input 5 0)) m (read_records l n s) (read_records (l + length more) n (s ++ more)) (omega arith) fits
-          (records_placed l n s fits) (records_grow l n more s fits)))
+        (records_placed l n s fits) (records_grow l n more s fits)))
 
     go : (o p : Option FileFault) → header_fault (length (input ++ more)) (input ++ more) ≡ p → HeadGrows (file_end (input ++ more)) (length input) o p
         → JudgingGrows (file_end (input ++ more)) (length input) more (with_header input o) (with_header (input ++ more) p)
