@@ -1,18 +1,9 @@
 -- What is written, one part behind the other.
-use Rattle.std.proofs.Common.{◌≡◌, ℕ, List, [], ◌++◌, length, take, drop, Some, None, Option, sym, refl, ap, ◌∙◌, subst, append_assoc, append-nil}
+use Rattle.std.proofs.Common.{◌≡◌, ℕ, List, ◌++◌, length, take, drop, Option, sym, refl, ap, ◌∙◌, subst, append_assoc}
 use Rattle.std.proofs.lemmas.List.{take_at, take-append-drop}
+use Rattle.std.proofs.KnownBytes.{Appends-trans}
 use Rattle.std.specs.Io.KnownBytes.{Appends}
 use Rattle.playing.specs.Streams.{PutInPart}
-
-pub nothing_more : (held : Option (List ℕ)) → Appends held held []
-nothing_more None = tt
-nothing_more (Some xs) = sym (append-nil xs)
-
-pub both_written : (a b c : Option (List ℕ)) (xs ys : List ℕ) → Appends a b xs → Appends b c ys → Appends a c (xs ++ ys)
-both_written None b c xs ys p q = tt
-both_written (Some us) None c xs ys p q = absurd p
-both_written (Some us) (Some vs) None xs ys p q = absurd q
-both_written (Some us) (Some vs) (Some ws) xs ys p q = q ∙ ap (λ l. l ++ ys) p ∙ append_assoc us xs ys
 
 -- a text was begun, and a front part of its next piece was written
 pub front_written : (a b c : Option (List ℕ)) (done piece rest : List ℕ) → Appends a b done → PutInPart b c piece → PutInPart a c ((done ++ piece) ++ rest)
@@ -23,5 +14,5 @@ front_written a b c done piece rest p f =
     ap (λ l. (done ++ l) ++ rest) (sym (take-append-drop k piece)) ∙ ap (λ l. l ++ rest) (sym (append_assoc done (take k piece) (drop k piece))) ∙ append_assoc here (drop k piece) rest in
     record {
       count = length here;
-      appended = subst (Appends a c) (sym (ap (take (length here)) whole ∙ take_at here (drop k piece ++ rest) (length here) refl)) (both_written a b c done (take k piece) p f.appended);
+      appended = subst (Appends a c) (sym (ap (take (length here)) whole ∙ take_at here (drop k piece ++ rest) (length here) refl)) (Appends-trans a b c done (take k piece) p f.appended);
     }

@@ -1,5 +1,6 @@
 pub mod Carrying
 pub mod Fronts
+pub mod Showing
 pub mod Readings
 pub mod OnlyText
 pub mod Midway

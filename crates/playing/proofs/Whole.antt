@@ -1,6 +1,7 @@
 -- From the parts of a run to the text of its input.
 use Rattle.std.proofs.Common.{◌≡◌, ℕ, List, take, Ok, Err, Result, Some, None, OnOk, IfSome, MatchResult, IsErrAnd, true, ap, ◌∙◌, sym, subst, refl, length, arith}
 use Rattle.std.proofs.lemmas.List.{take_all}
+use Rattle.std.proofs.KnownBytes.{Appends-kept}
 use Rattle.std.specs.declared.io.Error.{Error}
 use Rattle.std.specs.Io.KnownBytes.{Appends, Keeps}
 use Rattle.rackfile.specs.declared.fault.FileFault.{FileFault}
@@ -50,21 +51,15 @@ fault_written input fault held held' r u w =
 
 -- ==== Writing out at the end
 
-appends_kept : (a b c : Known) (xs : List ℕ) → Appends a b xs → Keeps b c → Appends a c xs
-appends_kept None b c xs p q = tt
-appends_kept (Some us) None c xs p q = absurd p
-appends_kept (Some us) (Some vs) None xs p q = absurd q
-appends_kept (Some us) (Some vs) (Some ws) xs p q = q ∙ p
-
 -- a text that is written and then handed on stays written, and where the handing on fails, a front part of it does
 pub handed_on : {E : Type 0} (Kind : List ℕ → Type 0) (held mid held' : Known) (r : Result (Unit {0}) E) → WritesAll Kind held mid → Keeps mid held' → Writes Kind held held' r
-handed_on Kind held mid held' (Ok done) w k = (w.0, w.1, appends_kept held mid held' w.0 w.2 k)
+handed_on Kind held mid held' (Ok done) w k = (w.0, w.1, Appends-kept held mid held' w.0 w.2 k)
 handed_on Kind held mid held' (Err e) w k = (
   w.0,
   w.1,
   record {
     count = length w.0;
-    appended = subst (Appends held held') (sym (take_all (length w.0) w.0 (omega arith))) (appends_kept held mid held' w.0 w.2 k);
+    appended = subst (Appends held held') (sym (take_all (length w.0) w.0 (omega arith))) (Appends-kept held mid held' w.0 w.2 k);
   },
 )
 

@@ -1,5 +1,6 @@
 -- The player's text by the book: what is written for every input. No rack and no table is named here.
-use Rattle.std.specs.Prelude.{◌≡◌, ℕ, ◌+◌, ◌↔◌, List, [], ◌∷◌, ◌++◌, take, replicate, Ok, Err, Result}
+use Rattle.std.specs.Prelude.{◌≡◌, ℕ, ◌+◌, ◌↔◌, List, [], ◌∷◌, ◌++◌, take, replicate, Ok, Err, Result, ◌≤◌, length}
+use Rattle.tasks.specs.declared.task.Task.{Task}
 use Rattle.tasks.specs.declared.units.Ticks.{Ticks}
 use Rattle.tasks.specs.declared.units.Units.{Units}
 use Rattle.tasks.specs.Tasks.{task_of}
@@ -8,6 +9,8 @@ use Rattle.preferences.specs.declared.policy.Policy.{Policy}
 use Rattle.preferences.specs.Policies.{policy_before}
 use Rattle.seating.specs.declared.refusal.AdmitRefusal.{AdmitRefusal}
 use Rattle.seating.specs.declared.refusal.WithdrawRefusal.{WithdrawRefusal}
+use Rattle.seating.specs.declared.refused.Refused.TheVariants.{Admitting, Withdrawing}
+use Rattle.seating.specs.Refusals as refusals
 use Rattle.book.specs.Book.{Book, Event, new_book, after, Right}
 use Rattle.book.specs.Book as call
 use Rattle.book.specs.Answers.{One}
@@ -57,3 +60,9 @@ OneText = (input : List ℕ) → One (List ℕ) (PlayerText input)
 -- The first 65,537 bytes decide: what stands behind them changes nothing.
 abbrev pub FrontDecides : Type 0
 FrontDecides = (input text : List ℕ) → PlayerText (take 65537 input) text ↔ PlayerText input text
+
+-- With a sheet of 16 entries and at most 16 processors a refused admission is one of 3 to 8, and a refused withdrawal is 9.
+pub record RefusalsShown : Type 0 where
+  pub admissions : (policy : Policy) (b : Book) (x : Task) (sheet sheet' : List ℕ) (e : AdmitRefusal) → length b ≤ 16 → length sheet ≡ 16
+      → Right least_good_point (policy_before policy) b (call.admits x sheet (Err e) sheet') → (3 ≤ refusals.number_of (Admitting e)) × (refusals.number_of (Admitting e) ≤ 8)
+  pub withdrawals : (e : WithdrawRefusal) → refusals.number_of (Withdrawing e) ≡ 9

@@ -1,5 +1,5 @@
 -- The whole run: what is read and what is written. `had` and `held` are the bytes that the reader still has and that the writer holds, where they are known; a dash marks them afterwards.
-use Rattle.std.specs.Prelude.{◌≡◌, ℕ, ◌^◌, ◌<◌, true, List, length, Ok, Err, Result}
+use Rattle.std.specs.Prelude.{◌≡◌, ℕ, ◌^◌, ◌<◌, true, List, length, take, Ok, Err, Result}
 use Rattle.std.specs.Io.KnownBytes.{Appends, Keeps}
 use Rattle.judges.specs.declared.points.Points.{Points}
 use Rattle.judges.specs.Meanings.{least_good_point}
@@ -18,6 +18,7 @@ use Rattle.playing.specs.declared.halt.Halt.{Halt}
 use Rattle.playing.specs.declared.halt.Halt.TheVariants.{Reading, Memory, Writing}
 use Rattle.playing.specs.Lines.{Lines, PlayerText, blank_sheet}
 use Rattle.playing.specs.Outcomes.{unreadable}
+use Rattle.playing.specs.Playing.{Plays}
 use Rattle.playing.specs.Streams.{Known, Taken, TakenAtMost, PutInPart, Puts}
 
 -- a text of this kind was written, whole or a front part of it
@@ -30,6 +31,12 @@ WritesFront Kind held held' = (text : List ℕ) × Kind text × PutInPart held h
 abbrev pub Writes : {E : Type 0} → (List ℕ → Type 0) → Known → Known → Result (Unit {0}) E → Type 0
 Writes Kind held held' (Ok done) = WritesAll Kind held held'
 Writes Kind held held' (Err e) = WritesFront Kind held held'
+
+-- a record is played, and its line written: the rack, the sheet and the line's buffer before and after
+pub record RecordWritten (r : Table Points Policy) (x : Seen) (index : ℕ) (sheet line : List ℕ) (held : Known) (s : Table Points Policy) (sheet' line' : List ℕ) (held' : Known) (result : Result (Unit {0}) Error) : Type 0 where
+  pub long : ℕ
+  pub plays : Plays (λ _. least_good_point) policy_before r x index sheet line long s sheet' line'
+  pub puts : Puts held held' (take long line') result
 
 -- the lines of these records by the book, on a rack that was just made
 abbrev pub LinesWritten : {E : Type 0} → Table Points Policy → List Seen → Known → Known → Result (Unit {0}) E → Type 0

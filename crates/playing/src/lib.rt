@@ -13,4 +13,4 @@ mod theorems;
 pub use fault::{PlayerFault, RefusedRecord};
 pub use halt::Halt;
 pub use run::play;
-pub use theorems::{front_decides, one_text};
+pub use theorems::{front_decides, one_text, refusals_shown};

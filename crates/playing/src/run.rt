@@ -1,7 +1,8 @@
 // The whole run: from the bytes read to the bytes written.
 ghost use Rattle.std.specs.Prelude.{◌≡◌, [], OnOk, IfSome};
 ghost use Rattle.std.specs.Io.Buffered.{writer_buffer, writer_contents};
-ghost use Rattle.playing.specs.Running.{LinesWritten, FaultWritten, Writes, WritesAll, Runs};
+ghost use Rattle.rackfile.specs.Records.{seen_as};
+ghost use Rattle.playing.specs.Running.{RecordWritten, LinesWritten, FaultWritten, Writes, WritesAll, Runs};
 ghost use Rattle.playing.specs.Lines.{PlayerText};
 
 use crate::fault::PlayerFault;
@@ -14,9 +15,25 @@ use judges::Points;
 use lines::write_line;
 use preferences::Policy;
 use rack::Rack;
-use rackfile::Records;
+use rackfile::{Record, Records};
 use std::alloc::Global;
 use std::io::{self, BufWriter, Read, Write};
+
+// One record: it is played, and its line is written out.
+// Six parameters, as `play_record` has five: the sheet and the line's buffer are the caller's.
+fn play_out<W: Write>(
+    rack: &mut Rack<Points, Policy>,
+    one: Record<'_>,
+    index: u32,
+    sheet: &mut [u32; 16],
+    line: &mut [u8; 64],
+    out: &mut W,
+) -> io::Result<()>
+    ensures { RecordWritten rack.old (seen_as one.entry) index sheet.old line.old (W.contents out.old) rack.new sheet.new line.new (W.contents out.new) result }
+{
+    let long = play_record(rack, one, index, sheet, line);
+    put(out, &line[..long])
+}
 
 // The lines of the records, in order, each with its index from 0, on one rack from the first record to the last.
 fn play_records<W: Write>(
@@ -29,8 +46,7 @@ fn play_records<W: Write>(
     let mut sheet = [0u32; 16];
     let mut line = [0u8; 64];
     for (index, record) in (0u32..).zip(records) {
-        let n = play_record(rack, record, index, &mut sheet, &mut line);
-        put(out, &line[..n])?;
+        play_out(rack, record, index, &mut sheet, &mut line, out)?;
     }
     Ok(())
 }

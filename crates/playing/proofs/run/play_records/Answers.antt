@@ -6,7 +6,8 @@ use Rattle.playing.specs.Lines.{Lines, blank_sheet}
 use Rattle.playing.specs.Running.{Writes}
 use Rattle.playing.proofs.Midway.{Midway, begun, ended, front}
 use Rattle.playing.proofs.Turning.{turn}
-use Rattle.playing.proofs.Appending.{nothing_more, both_written, front_written}
+use Rattle.std.proofs.KnownBytes.{Appends-nil, Appends-trans}
+use Rattle.playing.proofs.Appending.{front_written}
 use Rattle.playing.proofs.run.play_records.Goals as goal
 
 pub loop-index-init : goal.loop-index-init
@@ -22,7 +23,7 @@ loop-index-init g c =
             [],
             subst (λ n. Midway policy m c.args.records c.args.rack.now sheet n c.into_iter-index-iterator.result.b []) (sym from)
                 (subst (λ l. Midway policy m c.args.records c.args.rack.now sheet 0 l []) (sym left) there),
-            nothing_more _,
+            Appends-nil _,
           );
     }
 
@@ -33,25 +34,27 @@ loop-index-preserved g c =
       counts = omega (arith, c.loop-index.invariant.counts, q.0.0, q.0.1, ap length q.1);
       written = λ m judge policy made allowed.
           let (done, k, w) = c.loop-index.invariant.written m judge policy made allowed in
-          let line = take c.play_record-n.result c.play_record-n.new.out in (
+          let one = c.in_ok-play_out.ensures in
+          let line = take one.long c.play_out.new.line in (
             done ++ line,
-            turn policy m c.args.records c.loop-index.rack c.play_record-n.new.rack c.loop-index.sheet c.play_record-n.new.sheet c.loop-index.index-iterator.a.start c.next.new.self.a.start c.in-Some.index
-                (seen_as c.in-Some.record) c.loop-index.index-iterator.b c.next.new.self.b done c.loop-index.line c.play_record-n.new.out c.play_record-n.result k q.0 q.1 c.play_record-n.ensures.played,
-            both_written (g.W.Write.contents c.args.out.now) (g.W.Write.contents c.loop-index.out) (g.W.Write.contents c.put.new.writer) done line w c.in_ok-put.ensures,
+            turn policy m c.args.records c.loop-index.rack c.play_out.new.rack c.loop-index.sheet c.play_out.new.sheet c.loop-index.index-iterator.a.start c.next.new.self.a.start c.in-Some.index
+                (seen_as c.in-Some.record) c.loop-index.index-iterator.b c.next.new.self.b done c.loop-index.line c.play_out.new.line one.long k q.0 q.1 one.plays,
+            Appends-trans (g.W.Write.contents c.args.out.now) (g.W.Write.contents c.loop-index.out) (g.W.Write.contents c.play_out.new.out) done line w one.puts,
           );
     }
 
-pub returns-in_err-put : goal.returns-in_err-put
-returns-in_err-put g c = λ m judge policy made allowed few.
+pub returns-in_err-play_out : goal.returns-in_err-play_out
+returns-in_err-play_out g c = λ m judge policy made allowed few.
     let (done, k, w) = c.loop-index.invariant.written m judge policy made allowed in
-    let line = take c.play_record-n.result c.play_record-n.new.out in
+    let one = c.in_err-play_out.ensures in
+    let line = take one.long c.play_out.new.line in
     let q = c.in-Some.ensures.steps in
-    let after = turn policy m c.args.records c.loop-index.rack c.play_record-n.new.rack c.loop-index.sheet c.play_record-n.new.sheet c.loop-index.index-iterator.a.start c.next.new.self.a.start c.in-Some.index
-    (seen_as c.in-Some.record) c.loop-index.index-iterator.b c.next.new.self.b done c.loop-index.line c.play_record-n.new.out c.play_record-n.result k q.0 q.1 c.play_record-n.ensures.played in
-    let (rest, all) = front policy m c.args.records c.play_record-n.new.rack c.play_record-n.new.sheet c.next.new.self.a.start (done ++ line) c.next.new.self.b after in
+    let after = turn policy m c.args.records c.loop-index.rack c.play_out.new.rack c.loop-index.sheet c.play_out.new.sheet c.loop-index.index-iterator.a.start c.next.new.self.a.start c.in-Some.index
+    (seen_as c.in-Some.record) c.loop-index.index-iterator.b c.next.new.self.b done c.loop-index.line c.play_out.new.line one.long k q.0 q.1 one.plays in
+    let (rest, all) = front policy m c.args.records c.play_out.new.rack c.play_out.new.sheet c.next.new.self.a.start (done ++ line) c.next.new.self.b after in
     let e = err_from_is_err_and c.from_residual.result c.from_residual.ensures.1 in
-    subst (λ r. Writes (Lines policy (new_book m) blank_sheet 0 c.args.records) (g.W.Write.contents c.args.out.now) (g.W.Write.contents c.put.new.writer) r) (sym e.1)
-    ((done ++ line) ++ rest, all, front_written (g.W.Write.contents c.args.out.now) (g.W.Write.contents c.loop-index.out) (g.W.Write.contents c.put.new.writer) done line rest w c.in_err-put.ensures)
+    subst (λ r. Writes (Lines policy (new_book m) blank_sheet 0 c.args.records) (g.W.Write.contents c.args.out.now) (g.W.Write.contents c.play_out.new.out) r) (sym e.1)
+    ((done ++ line) ++ rest, all, front_written (g.W.Write.contents c.args.out.now) (g.W.Write.contents c.loop-index.out) (g.W.Write.contents c.play_out.new.out) done line rest w one.puts)
 
 pub returns : goal.returns
 returns g c = λ m judge policy made allowed few.
