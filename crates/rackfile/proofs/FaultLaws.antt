@@ -21,7 +21,7 @@ reading_judges : (input : List ℕ) → length input ≤ 65536 → reading input
 reading_judges input h = cond-false (too_long input) _ (judging input) (le-ltb 65536 (length input) h)
 
 -- an input with a fault other than 11 is judged so
-judged_so : (input : List ℕ) (f : FileFault) → reading input ≡ Err f → (number_of f ≡ 11 → ⊥) → (judging input ≡ Err f) × (length input ≤ 65536)
+pub judged_so : (input : List ℕ) (f : FileFault) → reading input ≡ Err f → (number_of f ≡ 11 → ⊥) → (judging input ≡ Err f) × (length input ≤ 65536)
 judged_so input f e other = go (too_long input) refl e
   where
     go : (t : Bool) → too_long input ≡ t → ◌≡◌ {A = Judged} (cond t (Err (Record (Bytes TooLong))) (judging input)) (Err f) → (judging input ≡ Err f) × (length input ≤ 65536)

@@ -112,7 +112,7 @@ header_grows z s more =
     (λ h. h) (λ h. h) (λ h. k5 (omega arith)) g5
 
 -- a header without a fault has a policy's letter
-header_named : (whole : ℕ) (s : List ℕ) → header_fault whole s ≡ None → is_some (policy_named (get_or s 5 0)) ≡ true
+pub header_named : (whole : ℕ) (s : List ℕ) → header_fault whole s ≡ None → is_some (policy_named (get_or s 5 0)) ≡ true
 header_named whole s e =
     let c1 = cond-none (ltb (length s) 3) _ _ e in
     let c2 = cond-none (not (is_mark (get_or s 0 0) (get_or s 1 0) (get_or s 2 0))) _ _ c1.1 in
@@ -122,7 +122,7 @@ header_named whole s e =
     let c6 = cond-none (not (is_some (policy_named (get_or s 5 0)))) _ _ c5.1 in
     not-false (is_some (policy_named (get_or s 5 0))) c6.0
 
-header_long : (s : List ℕ) → header_fault (length s) s ≡ None → 9 ≤ length s
+pub header_long : (s : List ℕ) → header_fault (length s) s ≡ None → 9 ≤ length s
 header_long s e = (subst (λ o. HeadGrows 0 (length s) o (header_fault (length (s ++ [])) (s ++ []))) e (header_grows 0 s [])).0
 
 -- The file: an input of length `l`, and the same with bytes behind.

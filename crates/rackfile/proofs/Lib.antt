@@ -9,3 +9,4 @@ pub mod Growing
 pub mod Judging
 pub mod FaultLaws
 pub mod Written
+pub mod Telling

@@ -1,12 +1,14 @@
 -- Laws above the faults: what more bytes, and fewer, do to them.
-use Rattle.std.specs.Prelude.{◌≡◌, ℕ, ◌+◌, ◌^◌, ◌<◌, ◌≤◌, true, cond, ◌↔◌, List, ◌++◌, length, take, slice_index, Ok, Err, Result, ◌≢◌}
+use Rattle.std.specs.Prelude.{◌≡◌, ℕ, ◌+◌, ◌^◌, ◌<◌, ◌≤◌, Bool, true, false, cond, ◌↔◌, ◌⊎◌, is_some, None, List, ◌++◌, length, take, slice_index, Ok, Err, Result, ◌≢◌}
 use Rattle.rackfile.specs.declared.fault.RecordFault.TheVariants.{Bytes, Tag, Label}
 use Rattle.rackfile.specs.declared.fault.FileFault.{FileFault}
 use Rattle.rackfile.specs.declared.fault.FileFault.TheVariants as fault
 use Rattle.rackfile.specs.Faults.{number_of, place_of}
-use Rattle.rackfile.specs.Records.{length_allowed}
-use Rattle.rackfile.specs.Files.{File, cut, processors_allowed, judging, reading}
-use Rattle.rackfile.specs.Format.{file_bytes, all_allowed, all_placed, Stands}
+use Rattle.preferences.specs.declared.policy.Policy.{Policy}
+use Rattle.preferences.specs.Policies.{policy_named}
+use Rattle.rackfile.specs.Records.{Seen, printable, length_allowed}
+use Rattle.rackfile.specs.Files.{File, cut, is_mark, is_version, processors_allowed, count_in, judging, reading}
+use Rattle.rackfile.specs.Format.{header_bytes, records_bytes, file_bytes, all_allowed, all_placed, Stands}
 use Rattle.rackfile.specs.Exact.{AreBytes}
 
 -- a fault that a field shows by what it holds
@@ -49,6 +51,39 @@ pub record ShownFrom (input : List ℕ) (f : FileFault) (end : ℕ) : Type 0 whe
 
 abbrev pub FaultsShow : Type 0
 FaultsShow = (input : List ℕ) (f : FileFault) → reading input ≡ Err f → IsShown f → (end : ℕ) × ShownFrom input f end
+
+-- A record begins at a place: before it stand a header and whole records, fewer than the header counts.
+pub record BeginsRecord (input : List ℕ) (place : ℕ) : Type 0 where
+  pub policy : Policy
+  pub processors : ℕ
+  pub records : List Seen
+  pub before : take place input ≡ header_bytes policy processors (count_in input) ++ records_bytes records
+  pub fewer : length records < count_in input
+
+-- what is wrong with a label whose length stands at `at`: that length, or the first byte of its text that is not printable
+abbrev pub IsWrongLabel : List ℕ → ℕ → ℕ → Type 0
+IsWrongLabel input at place =
+    ((place ≡ at) × (length_allowed (slice_index input at) ≡ false))
+    ⊎ ((at < place) × (place ≤ at + slice_index input at) × (printable (slice_index input place) ≡ false) × ((k : ℕ) → at < k → k < place → printable (slice_index input k) ≡ true))
+
+abbrev pub has_mark : List ℕ → Bool
+has_mark input = is_mark (slice_index input 0) (slice_index input 1) (slice_index input 2)
+
+abbrev pub has_version : List ℕ → Bool
+has_version input = is_version (slice_index input 3) (slice_index input 4)
+
+-- What a fault of 13 to 16 says of the input: all before its place is as it must be, and what stands there is not.
+abbrev pub Tells : List ℕ → FileFault → Type 0
+Tells input fault.Mark = has_mark input ≡ false
+Tells input fault.Version = (has_mark input ≡ true) × (has_version input ≡ false)
+Tells input fault.Policy = (has_mark input ≡ true) × (has_version input ≡ true) × (policy_named (slice_index input 5) ≡ None)
+Tells input fault.Processors = (has_mark input ≡ true) × (has_version input ≡ true) × (is_some (policy_named (slice_index input 5)) ≡ true) × (processors_allowed (slice_index input 6) ≡ false)
+Tells input (fault.Record (Tag place)) = BeginsRecord input place × (slice_index input place ≢ 65) × (slice_index input place ≢ 87)
+Tells input (fault.Record (Label place)) = (start : ℕ) × BeginsRecord input start × (slice_index input start ≡ 65) × IsWrongLabel input (start + 13) place
+Tells input (fault.Record (Bytes e)) = ⊥
+
+abbrev pub FaultsTell : Type 0
+FaultsTell = (input : List ℕ) (f : FileFault) → AreBytes input → reading input ≡ Err f → IsShown f → Tells input f
 
 -- reading the input ends with a fault of this number at this place
 abbrev pub HasFault : List ℕ → ℕ → ℕ → Type 0

@@ -1,7 +1,7 @@
 // What reading and writing a file have been proved to mean.
 ghost use Rattle.rackfile.specs.Faults.{FaultsDiffer};
 ghost use Rattle.rackfile.specs.Exact.{ReadsWhatStands, OneFile, NotBoth, LabelsAreThere};
-ghost use Rattle.rackfile.specs.FaultLaws.{FileReadsBack, FaultsStay, FaultsShow, TrailingExactly, CutExactly, TooLongExactly};
+ghost use Rattle.rackfile.specs.FaultLaws.{FileReadsBack, FaultsStay, FaultsShow, FaultsTell, TrailingExactly, CutExactly, TooLongExactly};
 
 /// No two faults have the same number and place.
 pub fn faults_differ()
@@ -45,6 +45,12 @@ pub fn faults_stay()
 #[tactic(auto, using(crate::proofs::FaultLaws::faults_show))]
 pub fn faults_show()
     ensures { FaultsShow }
+{}
+
+/// What stands at the place of a fault of 13 to 16 is wrong, and all before it is right.
+#[tactic(auto, using(crate::proofs::Telling::faults_tell))]
+pub fn faults_tell()
+    ensures { FaultsTell }
 {}
 
 /// 17 is exactly where bytes follow a file.
