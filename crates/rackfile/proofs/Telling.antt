@@ -1,8 +1,8 @@
 -- What a fault of 13 to 16 says of the input.
-use Rattle.std.proofs.Common.{◌≡◌, ◌≢◌, ◌⊎◌, ℕ, zero, suc, ◌+◌, ◌-◌, ◌*◌, ◌<◌, ◌≤◌, Bool, true, false, not, cond, eqb, ltb, leb, List, [], ◌∷◌, ◌++◌, length, get_or, take, drop, is_some, Some, None, Ok, Err, Option, Result, sym, refl, ap, ◌∙◌, subst, inl, inr, arith}
-use Rattle.std.proofs.lemmas.List.{append_assoc, length-append, length-drop, length-take-le, take-append-drop, take_at, get_or-append-add, get_or-drop, get_or-take}
+use Rattle.std.proofs.Common.{◌≡◌, ◌≢◌, ◌⊎◌, ℕ, zero, suc, ◌+◌, ◌-◌, ◌<◌, ◌≤◌, Bool, true, false, not, cond, eqb, ltb, leb, List, [], ◌∷◌, ◌++◌, length, get_or, take, drop, is_some, Some, None, Ok, Err, Option, Result, sym, refl, ap, ◌∙◌, subst, inl, inr, arith}
+use Rattle.std.proofs.lemmas.List.{append_assoc, length-append, length-drop, length-take-le, take-append-drop, take_at, get_or-append-add, get_or-take}
 use Rattle.std.proofs.lemmas.List.Quantifiers.{position-Some}
-use Rattle.std.proofs.lemmas.Bool.{not-true, not-false, leb-true, eqb-true, eqb-false, cases_Bool}
+use Rattle.std.proofs.lemmas.Bool.{not-true, not-false, leb-true, eqb-true, eqb-false}
 use Rattle.preferences.specs.declared.policy.Policy.{Policy}
 use Rattle.preferences.specs.Policies.{policy_named}
 use Rattle.rackfile.specs.declared.fault.BytesFault.{BytesFault}
@@ -12,16 +12,16 @@ use Rattle.rackfile.specs.declared.fault.RecordFault.TheVariants.{Bytes, Tag, La
 use Rattle.rackfile.specs.declared.fault.FileFault.{FileFault}
 use Rattle.rackfile.specs.declared.fault.FileFault.TheVariants.{Record, Mark, Version, Policy as PolicyFault, Processors}
 use Rattle.rackfile.specs.Faults.{number_of}
-use Rattle.rackfile.specs.Reading.{place_in, field, take_byte, take_word, take_part}
+use Rattle.rackfile.specs.Reading.{place_in, field, take_word}
 use Rattle.rackfile.specs.Records.{Seen, admits, withdraws, printable, first_bad, length_allowed, then, next, judged, read_text, read_label, read_admission, read_withdrawal, read_record}
-use Rattle.rackfile.specs.Files.{File, cut, processors_allowed, header_fault, count_in, read_records, with_records, with_header, judging}
+use Rattle.rackfile.specs.Files.{cut, processors_allowed, header_fault, count_in, read_records, with_records, with_header}
 use Rattle.rackfile.specs.Format.{header_bytes, record_bytes, records_bytes}
 use Rattle.rackfile.specs.Exact.{AreBytes}
 use Rattle.rackfile.specs.FaultLaws.{IsShown, BeginsRecord, IsWrongLabel, has_mark, has_version, Tells, FaultsTell}
 use Rattle.rackfile.proofs.RecordBytes.{record_back}
 use Rattle.rackfile.proofs.Headers.{header_back}
 use Rattle.rackfile.proofs.Placing.{word_rest, four_more, behind_work, behind_number}
-use Rattle.rackfile.proofs.Judging.{Judged, header_named, header_long}
+use Rattle.rackfile.proofs.Judging.{Judged, header_named}
 use Rattle.rackfile.proofs.FaultLaws.{judged_so}
 
 -- The header.
@@ -204,7 +204,7 @@ wrong_in input front label place is wrong = go wrong
     go : IsWrongLabel label 0 place → IsWrongLabel input (length front) (length front + place)
     go (inl (e, bad)) = inl (omega arith, ap length_allowed (behind_front input front label 0 (length front) is (omega arith)) ∙ bad)
     go (inr (l, m, bad, before)) =
-      inr (omega arith, omega (arith, behind_front input front label 0 (length front) is (omega arith)), ap printable (behind_front input front label place (length front + place) is refl) ∙ bad, clean before)
+        inr (omega arith, omega (arith, behind_front input front label 0 (length front) is (omega arith)), ap printable (behind_front input front label place (length front + place) is refl) ∙ bad, clean before)
 
 -- The file.
 
