@@ -17,7 +17,7 @@ use Rattle.rackfile.specs.Records.{Seen, admits, withdraws, printable, first_bad
 use Rattle.rackfile.specs.Files.{cut, processors_allowed, header_fault, count_in, read_records, with_records, with_header}
 use Rattle.rackfile.specs.Format.{header_bytes, record_bytes, records_bytes}
 use Rattle.rackfile.specs.Exact.{AreBytes}
-use Rattle.rackfile.specs.FaultLaws.{IsShown, BeginsRecord, IsWrongLabel, has_mark, has_version, Tells, FaultsTell}
+use Rattle.rackfile.specs.FaultLaws.{IsShown, BeginsRecord, IsWrongLabel, right_mark, right_version, Tells, FaultsTell}
 use Rattle.rackfile.proofs.RecordBytes.{record_back}
 use Rattle.rackfile.proofs.Headers.{header_back}
 use Rattle.rackfile.proofs.Placing.{word_rest, four_more, behind_work, behind_number}
@@ -48,8 +48,8 @@ none_named (Some p) h = absurd cc
 header_tells : (s : List ℕ) (g : FileFault) → header_fault (length s) s ≡ Some g → (g ≡ cut (length s)) ⊎ Tells s g
 header_tells s g e =
     let l = length s in
-    head_step l 3 (not (has_mark s)) Mark g _ s e (λ h. not-true (has_mark s) h) (λ b1 e1. let mark = not-false (has_mark s) b1 in
-    head_step l 5 (not (has_version s)) Version g _ s e1 (λ h. (mark, not-true (has_version s) h)) (λ b2 e2. let version = not-false (has_version s) b2 in
+    head_step l 3 (not (right_mark s)) Mark g _ s e (λ h. not-true (right_mark s) h) (λ b1 e1. let mark = not-false (right_mark s) b1 in
+    head_step l 5 (not (right_version s)) Version g _ s e1 (λ h. (mark, not-true (right_version s) h)) (λ b2 e2. let version = not-false (right_version s) b2 in
     head_step l 6 (not (is_some (policy_named (get_or s 5 0)))) PolicyFault g _ s e2 (λ h. (mark, version, none_named (policy_named (get_or s 5 0)) h)) (λ b3 e3. let named = not-false (is_some (policy_named (get_or s 5 0))) b3 in
     head_step l 7 (not (processors_allowed (get_or s 6 0))) Processors g _ s e3 (λ h. (mark, version, named, not-true (processors_allowed (get_or s 6 0)) h)) (λ b4 e4. last_step l g s e4))))
 

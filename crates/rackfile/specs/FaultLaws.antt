@@ -1,4 +1,4 @@
--- Laws above the faults: what more bytes, and fewer, do to them.
+-- Laws above the faults: what more bytes, and fewer, do to them, and what they say of the input.
 use Rattle.std.specs.Prelude.{◌≡◌, ℕ, ◌+◌, ◌^◌, ◌<◌, ◌≤◌, Bool, true, false, cond, ◌↔◌, ◌⊎◌, is_some, None, List, ◌++◌, length, take, slice_index, Ok, Err, Result, ◌≢◌}
 use Rattle.rackfile.specs.declared.fault.RecordFault.TheVariants.{Bytes, Tag, Label}
 use Rattle.rackfile.specs.declared.fault.FileFault.{FileFault}
@@ -66,18 +66,19 @@ IsWrongLabel input at place =
     ((place ≡ at) × (length_allowed (slice_index input at) ≡ false))
     ⊎ ((at < place) × (place ≤ at + slice_index input at) × (printable (slice_index input place) ≡ false) × ((k : ℕ) → at < k → k < place → printable (slice_index input k) ≡ true))
 
-abbrev pub has_mark : List ℕ → Bool
-has_mark input = is_mark (slice_index input 0) (slice_index input 1) (slice_index input 2)
+-- the input's mark and version are as they must be
+abbrev pub right_mark : List ℕ → Bool
+right_mark input = is_mark (slice_index input 0) (slice_index input 1) (slice_index input 2)
 
-abbrev pub has_version : List ℕ → Bool
-has_version input = is_version (slice_index input 3) (slice_index input 4)
+abbrev pub right_version : List ℕ → Bool
+right_version input = is_version (slice_index input 3) (slice_index input 4)
 
 -- What a fault of 13 to 16 says of the input: all before its place is as it must be, and what stands there is not.
 abbrev pub Tells : List ℕ → FileFault → Type 0
-Tells input fault.Mark = has_mark input ≡ false
-Tells input fault.Version = (has_mark input ≡ true) × (has_version input ≡ false)
-Tells input fault.Policy = (has_mark input ≡ true) × (has_version input ≡ true) × (policy_named (slice_index input 5) ≡ None)
-Tells input fault.Processors = (has_mark input ≡ true) × (has_version input ≡ true) × (is_some (policy_named (slice_index input 5)) ≡ true) × (processors_allowed (slice_index input 6) ≡ false)
+Tells input fault.Mark = right_mark input ≡ false
+Tells input fault.Version = (right_mark input ≡ true) × (right_version input ≡ false)
+Tells input fault.Policy = (right_mark input ≡ true) × (right_version input ≡ true) × (policy_named (slice_index input 5) ≡ None)
+Tells input fault.Processors = (right_mark input ≡ true) × (right_version input ≡ true) × (is_some (policy_named (slice_index input 5)) ≡ true) × (processors_allowed (slice_index input 6) ≡ false)
 Tells input (fault.Record (Tag place)) = BeginsRecord input place × (slice_index input place ≢ 65) × (slice_index input place ≢ 87)
 Tells input (fault.Record (Label place)) = (start : ℕ) × BeginsRecord input start × (slice_index input start ≡ 65) × IsWrongLabel input (start + 13) place
 Tells input (fault.Record (Bytes e)) = ⊥
