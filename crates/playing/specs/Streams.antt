@@ -1,5 +1,5 @@
 -- What comes in from a reader and goes out to a writer, whose bytes are known or not.
-use Rattle.std.specs.Prelude.{◌≡◌, ℕ, ◌<◌, ◌≤◌, Option, List, [], length, take, Ok, Err, Result, Vec, OnOk}
+use Rattle.std.specs.Prelude.{◌≡◌, ℕ, ◌<◌, ◌≤◌, Option, List, [], length, take, Ok, Err, Result, Vec, OnOk, None, Some, codes}
 use Rattle.std.specs.Io.KnownBytes.{Keeps, Appends, Consumes, IsAtEnd}
 use Rattle.std.specs.Io.Buffered.{writer_contents, writer_buffer}
 use Rattle.std.specs.declared.io.Error.{Error}
@@ -63,3 +63,9 @@ Puts known known' bytes (Err e) = PutInPart known known' bytes
 pub record Finishes {W A : Type 0} (contents : W → Known) (out out' : BufWriter W A) (result : Result Unit Error) : Type 0 where
   pub kept : Keeps (writer_contents contents out) (writer_contents contents out')
   pub emptied : OnOk result (writer_buffer out' ≡ [])
+
+-- how a run that ended early is shown; of the library's errors no contract says how they show
+abbrev pub halt_text : Halt → Option (List ℕ)
+halt_text (Reading e) = None
+halt_text (Memory e) = Some (codes "no memory for the input")
+halt_text (Writing e) = None

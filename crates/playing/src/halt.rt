@@ -1,6 +1,7 @@
 // Why the player ends before the text is whole.
 ghost use Rattle.std.specs.Prelude.{◌≡◌};
 ghost use Rattle.playing.specs.declared.halt.Halt.TheVariants.{Memory};
+ghost use Rattle.playing.specs.Streams.{halt_text};
 
 use std::alloc::AllocError;
 use std::error::Error;
@@ -26,6 +27,8 @@ impl From<AllocError> for Halt {
 }
 
 impl fmt::Display for Halt {
+    ghost output = { halt_text };
+
     fn fmt<W: fmt::Write>(&self, f: &mut fmt::Formatter<W>) -> fmt::Result {
         match self {
             Halt::Reading(e) => write!(f, "reading: {e}"),
