@@ -9,3 +9,6 @@ fn main(rt: HostRuntime) -> anyhow::Result<()> {
     play(rt.alloc(), &mut rt.stdin(), &mut out)?;
     Ok(())
 }
+
+#[cfg(test)]
+mod tests;
