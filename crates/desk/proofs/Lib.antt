@@ -1,4 +1,5 @@
 pub mod Reading
+pub mod Losing
 pub mod Replying
 pub mod Setups
 pub mod Records

@@ -1,4 +1,6 @@
 pub mod Desk
+pub mod Lost
+pub mod Endings
 pub mod Unanswered
 pub mod Hex
 pub mod Names

@@ -68,3 +68,7 @@ SeatsOf desk p = OfRack (λ r. Listed r p) desk
 abbrev pub Answer : (ℕ → List ℕ → Type 0) → Option ℕ → List ℕ → Type 0
 Answer of None text = text ≡ codes "?"
 Answer of (Some n) text = of n text
+
+-- a question leaves the desk as it is
+abbrev pub Asked : (ℕ → List ℕ → Type 0) → Option ℕ → DeskSeen → List ℕ → DeskSeen → Type 0
+Asked of asks before text after = Answer of asks text × (after ≡ before)

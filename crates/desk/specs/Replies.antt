@@ -1,7 +1,8 @@
 -- What is written back for a line.
 use Rattle.std.specs.Prelude.{◌≡◌, ℕ, List, ◌∷◌, ◌++◌, Some, None, codes, Option, ◌≢◌}
 use Rattle.rackfile.specs.Files.{reading}
-use Rattle.script.specs.Lines.{reply_text}
+use Rattle.std.specs.Str.{IsUtf8}
+use Rattle.script.specs.Lines.{line_with, reply_text}
 use Rattle.desk.specs.Desk.{DeskSeen}
 use Rattle.desk.specs.declared.words.Word.{Word}
 use Rattle.desk.specs.declared.words.Word.TheVariants.{Read, Play, Make, Admit, Withdraw, Find, Load, Seats}
@@ -11,8 +12,9 @@ use Rattle.desk.specs.Files.{reading_text}
 use Rattle.desk.specs.Making.{one_number, MakeTold}
 use Rattle.desk.specs.Asking.{admission_of, AdmitAnswer, WithdrawAnswer}
 use Rattle.desk.specs.Plays.{PlayTold}
-use Rattle.desk.specs.Questions.{Answer, FindOf, LoadOf, SeatsOf}
+use Rattle.desk.specs.Questions.{Asked, FindOf, LoadOf, SeatsOf}
 
+-- the bytes are read as a file; `?` where there are none
 abbrev pub read_text : Option (List ℕ) → List ℕ
 read_text None = codes "?"
 read_text (Some input) = reading_text (reading input)
@@ -24,26 +26,45 @@ Told Play rest before text after = PlayTold (bytes_of rest) text × (after ≡ b
 Told Make rest before text after = MakeTold before rest text after
 Told Admit rest before text after = AdmitAnswer before (admission_of rest) text after
 Told Withdraw rest before text after = WithdrawAnswer before (one_number rest) text after
-Told Find rest before text after = Answer (FindOf before) (one_number rest) text × (after ≡ before)
-Told Load rest before text after = Answer (LoadOf before) (one_number rest) text × (after ≡ before)
-Told Seats rest before text after = Answer (SeatsOf before) (one_number rest) text × (after ≡ before)
+Told Find rest before text after = Asked (FindOf before) (one_number rest) before text after
+Told Load rest before text after = Asked (LoadOf before) (one_number rest) before text after
+Told Seats rest before text after = Asked (SeatsOf before) (one_number rest) before text after
 
--- a line that begins with a word of the desk and a space is answered here, with ` -> ` and the answer behind it
-pub record Answered (before : DeskSeen) (line : List ℕ) (word : Word) (rest : List ℕ) (back : List ℕ) (after : DeskSeen) : Type 0 where
-  pub begins : line ≡ name_of word ++ (32 ∷ rest)
+-- a line with what its call is told behind it
+pub record ToldBehind (line : List ℕ) (word : Word) (rest : List ℕ) (before : DeskSeen) (back : List ℕ) (after : DeskSeen) : Type 0 where
   pub text : List ℕ
   pub told : Told word rest before text after
   pub whole : back ≡ line ++ (codes " -> " ++ text)
 
+-- a line that begins with a word of the desk and a space is answered here, with ` -> ` and the answer behind it
+pub record Answered (before : DeskSeen) (line : List ℕ) (word : Word) (rest : List ℕ) (back : List ℕ) (after : DeskSeen) : Type 0 where
+  pub is_text : IsUtf8 line
+  pub begins : line ≡ name_of word ++ (32 ∷ rest)
+  pub told : ToldBehind line word rest before back after
+
 -- any other line is answered as a script's
 pub record Passed (before : DeskSeen) (line : List ℕ) (back : List ℕ) (after : DeskSeen) : Type 0 where
+  pub is_text : IsUtf8 line
   pub other : (word : Word) (rest : List ℕ) → line ≢ name_of word ++ (32 ∷ rest)
   pub whole : back ≡ reply_text line
   pub stays : after ≡ before
 
-abbrev pub RepliedTo : Option (Word × List ℕ) → DeskSeen → List ℕ → List ℕ → DeskSeen → Type 0
-RepliedTo (Some x) before line back after = Answered before line x.0 x.1 back after
-RepliedTo None before line back after = Passed before line back after
+-- a line that is no text in UTF-8 is no call: `?`, unless it is passed over
+pub record NoText (before : DeskSeen) (line : List ℕ) (back : List ℕ) (after : DeskSeen) : Type 0 where
+  pub no_text : ¬ (IsUtf8 line)
+  pub whole : back ≡ line_with line (codes "?")
+  pub stays : after ≡ before
+
+-- how a line is taken
+pub data Line : Type 0 where
+  call : Word → List ℕ → Line
+  scripted : Line
+  no_text : Line
+
+abbrev pub RepliedTo : Line → DeskSeen → List ℕ → List ℕ → DeskSeen → Type 0
+RepliedTo (call word rest) before line back after = Answered before line word rest back after
+RepliedTo scripted before line back after = Passed before line back after
+RepliedTo no_text before line back after = NoText before line back after
 
 abbrev pub Replied : DeskSeen → List ℕ → List ℕ → DeskSeen → Type 0
-Replied before line back after = (asks : Option (Word × List ℕ)) × RepliedTo asks before line back after
+Replied before line back after = (taken : Line) × RepliedTo taken before line back after

@@ -1,18 +1,31 @@
 -- Calls that have no answer of their own, and what is said in its place.
-use Rattle.std.specs.Prelude.{ℕ, List, Some, None, Ok, Err, codes, Option, Result}
+use Rattle.std.specs.Prelude.{ℕ, List, Ok, Err, codes, Result}
+use Rattle.script.specs.declared.no_call.NoCall.{NoCall}
 use Rattle.script.specs.declared.no_call.NoCall.TheVariants.{Unreadable, Memory}
+use Rattle.desk.specs.declared.lost.Lost.TheVariants as lost
+use Rattle.desk.specs.declared.lost.Lost.{Lost}
 use Rattle.desk.specs.declared.unanswered.Unanswered.{Unanswered}
-use Rattle.desk.specs.declared.unanswered.Unanswered.TheVariants.{NoCall, NoRack}
+use Rattle.desk.specs.declared.unanswered.Unanswered.TheVariants as why
+use Rattle.desk.specs.Lost.{Leaves}
 
--- the text said fits: the answer, `?` where there is no call, `no rack` where there is none; out of memory nothing is said
-abbrev pub Says : {A : Type 0} → (A → List ℕ) → (List ℕ → Type 0) → Result A Unanswered → Type 0
-Says bytes fits (Ok a) = fits (bytes a)
-Says bytes fits (Err (NoCall Unreadable)) = fits (codes "?")
-Says bytes fits (Err (NoCall (Memory e))) = Unit {0}
-Says bytes fits (Err NoRack) = fits (codes "no rack")
+-- what is said in the place of an answer fits what is left: `?` where there is no call, `no rack` where there is none; or something is lost
+abbrev pub SaysInstead : {S : Type 0} → (List ℕ → S → Type 0) → S → S → Unanswered → Type 0
+SaysInstead fits before after why.NoCall = fits (codes "?") after
+SaysInstead fits before after why.NoRack = fits (codes "no rack") after
+SaysInstead fits before after (why.Lost l) = Leaves fits before after l
 
--- what is said in its place; nothing where there was no memory
-abbrev pub instead : Unanswered → Option (List ℕ)
-instead (NoCall Unreadable) = Some (codes "?")
-instead (NoCall (Memory e)) = None
-instead NoRack = Some (codes "no rack")
+-- the answer fits what is left, or what is said in its place does
+abbrev pub Says : {A S : Type 0} → (A → List ℕ) → (List ℕ → S → Type 0) → S → S → Result A Unanswered → Type 0
+Says bytes fits before after (Ok a) = fits (bytes a) after
+Says bytes fits before after (Err unanswered) = SaysInstead fits before after unanswered
+
+-- a call that is not read is none; where memory fails in reading, it is lost
+abbrev pub unread : NoCall → Unanswered
+unread Unreadable = why.NoCall
+unread (Memory e) = why.Lost (lost.Call e)
+
+-- what is said in its place, or what is lost
+abbrev pub instead : Unanswered → Result (List ℕ) Lost
+instead why.NoCall = Ok (codes "?")
+instead why.NoRack = Ok (codes "no rack")
+instead (why.Lost l) = Err l

@@ -3,9 +3,11 @@ ghost use Rattle.std.specs.Prelude.{◌≡◌, replicate, IfOk, string_bytes};
 ghost use Rattle.script.specs.NoCalls.{Reads};
 ghost use Rattle.desk.specs.Making.{one_number};
 ghost use Rattle.desk.specs.Asking.{admission_of, Admitted, Withdrawn, AdmitAnswer, WithdrawAnswer};
+ghost use Rattle.desk.specs.Lost.{Answers};
 ghost use Rattle.desk.specs.Unanswered.{Says};
 
 use crate::desk::Desk;
+use crate::lost::{Lost, in_words};
 use crate::making::one_number;
 use crate::texts::{AdmitText, WithdrawText};
 use crate::unanswered::Unanswered;
@@ -57,8 +59,8 @@ fn admit_on(
     alloc: Global,
     rack: &mut Rack<AnyJudge, Policy>,
     asks: Admission,
-) -> Result<String, AllocError>
-    ensures { IfOk result (λ s. Admitted rack.old asks (string_bytes s) rack.new) }
+) -> Result<String, Lost>
+    ensures { Answers string_bytes (Admitted rack.old asks) rack.old rack.new result }
 {
     let mut sheet = blank_sheet(alloc, asks.length)?;
     let answer = rack.admit(asks.task, sheet.as_mut_slice());
@@ -66,12 +68,12 @@ fn admit_on(
         answer,
         sheet: sheet.as_slice(),
     };
-    text.to_string(alloc)
+    in_words(alloc, &text)
 }
 
 // Admits the task that `rest` asks for. Three lines, as at the questions.
 pub(crate) fn admit(alloc: Global, desk: &mut Desk, rest: &str) -> Result<String, Unanswered>
-    ensures { Says string_bytes (λ text. AdmitAnswer desk.old (admission_of rest.now) text desk.new) result }
+    ensures { Says string_bytes (AdmitAnswer desk.old (admission_of rest.now)) desk.old desk.new result }
 {
     let asks = admission_from(alloc, rest)?;
     let rack = desk.as_mut().ok_or(Unanswered::NoRack)?;
@@ -79,19 +81,20 @@ pub(crate) fn admit(alloc: Global, desk: &mut Desk, rest: &str) -> Result<String
 }
 
 // A withdrawal, and its answer in words.
+#[tactic(auto, using(crate::proofs::Losing::withdrawn_or_lost))]
 fn withdraw_on(
     alloc: Global,
     rack: &mut Rack<AnyJudge, Policy>,
     number: u32,
-) -> Result<String, AllocError>
-    ensures { IfOk result (λ s. Withdrawn rack.old number (string_bytes s) rack.new) }
+) -> Result<String, Lost>
+    ensures { Answers string_bytes (Withdrawn rack.old number) rack.old rack.new result }
 {
-    WithdrawText(rack.withdraw(number)).to_string(alloc)
+    in_words(alloc, &WithdrawText(rack.withdraw(number)))
 }
 
 // Withdraws the task that `rest` names.
 pub(crate) fn withdraw(alloc: Global, desk: &mut Desk, rest: &str) -> Result<String, Unanswered>
-    ensures { Says string_bytes (λ text. WithdrawAnswer desk.old (one_number rest.now) text desk.new) result }
+    ensures { Says string_bytes (WithdrawAnswer desk.old (one_number rest.now)) desk.old desk.new result }
 {
     let number = one_number(alloc, rest)?;
     let rack = desk.as_mut().ok_or(Unanswered::NoRack)?;

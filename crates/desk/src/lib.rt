@@ -3,8 +3,10 @@
 
 mod asking;
 mod desk;
+mod endings;
 mod files;
 mod hex;
+mod lost;
 mod making;
 mod plays;
 mod questions;
@@ -17,8 +19,10 @@ mod words;
 
 pub use asking::Admission;
 pub use desk::Desk;
+pub use endings::without_end;
 pub use files::read_answer;
 pub use hex::bytes_from;
+pub use lost::Lost;
 pub use making::Setup;
 pub use plays::play_told;
 pub use replies::reply;

@@ -5,6 +5,7 @@ ghost use Rattle.desk.specs.Making.{setup_name, ReadsMake, Puts, MakeTold, made_
 ghost use Rattle.desk.specs.Unanswered.{Says};
 
 use crate::desk::Desk;
+use crate::lost::in_words;
 use crate::unanswered::Unanswered;
 use judges::AnyJudge;
 use preferences::Policy;
@@ -93,10 +94,10 @@ fn make_from(alloc: Global, rest: &str) -> Result<(u32, Setup), NoCall>
 
 // Makes the rack that `rest` asks for, and answers `ok` or the refusal.
 pub(crate) fn make(alloc: Global, desk: &mut Desk, rest: &str) -> Result<String, Unanswered>
-    ensures { Says string_bytes (λ text. MakeTold desk.old rest.now text desk.new) result }
+    ensures { Says string_bytes (MakeTold desk.old rest.now) desk.old desk.new result }
 {
     let (processors, setup) = make_from(alloc, rest)?;
     // `as`: a usize has no `From<u32>`.
     let answer = put(desk, processors as usize, setup);
-    Ok(MakeText(answer).to_string(alloc)?)
+    Ok(in_words(alloc, &MakeText(answer))?)
 }

@@ -1,7 +1,7 @@
 // `find NUMBER`, `load P` and `seats P`. Three lines each: one function for the three would take the question as a closure, with its answer's type and text. `as`: a usize has no `From<u32>`.
 ghost use Rattle.std.specs.Prelude.{◌≡◌, string_bytes};
 ghost use Rattle.desk.specs.Making.{one_number};
-ghost use Rattle.desk.specs.Questions.{FindOf, LoadOf, SeatsOf, Answer};
+ghost use Rattle.desk.specs.Questions.{FindOf, LoadOf, SeatsOf, Asked};
 ghost use Rattle.desk.specs.Unanswered.{Says};
 
 use crate::desk::Desk;
@@ -12,7 +12,7 @@ use std::alloc::Global;
 
 // Where the task sits that `rest` names.
 pub(crate) fn find(alloc: Global, desk: &Desk, rest: &str) -> Result<String, Unanswered>
-    ensures { Says string_bytes (Answer (FindOf desk.now) (one_number rest.now)) result }
+    ensures { Says string_bytes (Asked (FindOf desk.now) (one_number rest.now) desk.now) desk.now desk.now result }
 {
     let number = one_number(alloc, rest)?;
     let rack = desk.as_ref().ok_or(Unanswered::NoRack)?;
@@ -21,7 +21,7 @@ pub(crate) fn find(alloc: Global, desk: &Desk, rest: &str) -> Result<String, Una
 
 // The load of the processor that `rest` names.
 pub(crate) fn load(alloc: Global, desk: &Desk, rest: &str) -> Result<String, Unanswered>
-    ensures { Says string_bytes (Answer (LoadOf desk.now) (one_number rest.now)) result }
+    ensures { Says string_bytes (Asked (LoadOf desk.now) (one_number rest.now) desk.now) desk.now desk.now result }
 {
     let processor = one_number(alloc, rest)?;
     let rack = desk.as_ref().ok_or(Unanswered::NoRack)?;
@@ -30,7 +30,7 @@ pub(crate) fn load(alloc: Global, desk: &Desk, rest: &str) -> Result<String, Una
 
 // Its seats.
 pub(crate) fn seats(alloc: Global, desk: &Desk, rest: &str) -> Result<String, Unanswered>
-    ensures { Says string_bytes (Answer (SeatsOf desk.now) (one_number rest.now)) result }
+    ensures { Says string_bytes (Asked (SeatsOf desk.now) (one_number rest.now) desk.now) desk.now desk.now result }
 {
     let processor = one_number(alloc, rest)?;
     let rack = desk.as_ref().ok_or(Unanswered::NoRack)?;

@@ -1,23 +1,32 @@
 // What is written back for a line.
-ghost use Rattle.std.specs.Prelude.{◌≡◌, ◌++◌, IfOk, string_bytes, vec_items, codes};
+ghost use Rattle.std.specs.Prelude.{◌≡◌, ◌++◌, string_bytes, vec_items, codes};
+ghost use Rattle.std.specs.Option.{option_map};
+ghost use Rattle.rackfile.specs.Files.{reading};
+ghost use Rattle.script.specs.Lines.{line_with};
+ghost use Rattle.script.specs.NoCalls.{Reads};
+ghost use Rattle.desk.specs.Files.{reading_text};
 ghost use Rattle.desk.specs.Hex.{bytes_of};
-ghost use Rattle.desk.specs.Replies.{read_text, Told, Replied};
+ghost use Rattle.desk.specs.Lost.{Answers, Written};
+ghost use Rattle.desk.specs.Replies.{Told, ToldBehind, Replied};
 ghost use Rattle.desk.specs.Unanswered.{Says};
 
 use crate::asking::{admit, withdraw};
 use crate::desk::Desk;
 use crate::files::read_answer;
 use crate::hex::bytes_from;
+use crate::lost::Lost;
 use crate::making::make;
 use crate::plays::play_told;
 use crate::questions::{find, load, seats};
 use crate::unanswered::Unanswered;
 use crate::words::{Word, asked};
-use std::alloc::{AllocError, Global};
+use script::{NoCall, is_passed_over};
+use std::alloc::Global;
+use std::str;
 
 // What the bytes are read as that `rest` writes in hexadecimal.
-fn read(alloc: Global, rest: &str) -> Result<String, Unanswered>
-    ensures { Says string_bytes (λ text. text ≡ read_text (bytes_of rest.now)) result }
+fn read(alloc: Global, rest: &str) -> Result<String, NoCall>
+    ensures { Reads string_bytes (option_map (λ input. reading_text (reading input)) (bytes_of rest.now)) result }
 {
     let input = bytes_from(alloc, rest.as_bytes())?;
     Ok(read_answer(alloc, input.as_slice())?)
@@ -25,7 +34,7 @@ fn read(alloc: Global, rest: &str) -> Result<String, Unanswered>
 
 // The answer to a call, or why it has none of its own.
 fn answer(alloc: Global, desk: &mut Desk, word: Word, rest: &str) -> Result<Vec<u8>, Unanswered>
-    ensures { Says vec_items (λ text. Told word rest.now desk.old text desk.new) result }
+    ensures { Says vec_items (Told word rest.now desk.old) desk.old desk.new result }
 {
     let text = match word {
         Word::Read => read(alloc, rest)?,
@@ -40,27 +49,59 @@ fn answer(alloc: Global, desk: &mut Desk, word: Word, rest: &str) -> Result<Vec<
     Ok(text.into_bytes())
 }
 
-// What a call is told: `?` where it is none, `no rack` where it asks for one and there is none.
-fn told(alloc: Global, desk: &mut Desk, word: Word, rest: &str) -> Result<Vec<u8>, AllocError>
-    ensures { IfOk result (λ v. Told word rest.now desk.old v.items desk.new) }
-{
-    answer(alloc, desk, word, rest).or_else(|why| why.told(alloc))
-}
-
 // A line with an answer behind it.
-fn answered(alloc: Global, line: &str, text: &[u8]) -> Result<Vec<u8>, AllocError>
-    ensures { IfOk result (λ v. v.items ≡ line.now ++ (codes " -> " ++ text.now)) }
+fn answered(alloc: Global, line: &[u8], text: &[u8]) -> Result<Vec<u8>, Lost>
+    ensures { Written vec_items (line.now ++ (codes " -> " ++ text.now)) result }
 {
-    [line.as_bytes(), b" -> ".as_slice(), text].concat(alloc)
+    let parts = [line, b" -> ".as_slice(), text];
+    parts.concat(alloc).map_err(Lost::Answer)
 }
 
-/// What is written back for a line: a call of the desk is answered on the desk, any other line as a script's.
-pub fn reply(alloc: Global, desk: &mut Desk, line: &str) -> Result<Vec<u8>, AllocError>
-    ensures { IfOk result (λ v. Replied desk.old line.now v.items desk.new) }
+// A call with what it is told behind it: the answer, `?` where it is none, `no rack` where it asks for one and there is none.
+#[tactic(auto, using(crate::proofs::Replying::told_answer, crate::proofs::Replying::told_instead, crate::proofs::Replying::told_lost))]
+fn told(
+    alloc: Global,
+    desk: &mut Desk,
+    line: &str,
+    word: Word,
+    rest: &str,
+) -> Result<Vec<u8>, Lost>
+    ensures { Answers vec_items (ToldBehind line.now word rest.now desk.old) desk.old desk.new result }
+{
+    match answer(alloc, desk, word, rest) {
+        Ok(text) => answered(alloc, line.as_bytes(), text.as_slice()),
+        Err(why) => answered(alloc, line.as_bytes(), why.instead()?),
+    }
+}
+
+// What is written back for a line of text: a call of the desk is answered on the desk, any other as a script's.
+#[tactic(auto, using(crate::proofs::Replying::replied_told))]
+fn text_reply(alloc: Global, desk: &mut Desk, line: &str) -> Result<Vec<u8>, Lost>
+    ensures { Answers vec_items (Replied desk.old line.now) desk.old desk.new result }
 {
     let Some((word, rest)) = asked(line) else {
         return Ok(script::reply(alloc, line)?.into_bytes());
     };
-    let text = told(alloc, desk, word, rest)?;
-    answered(alloc, line, text.as_slice())
+    told(alloc, desk, line, word, rest)
+}
+
+// What is written back for a line that is no text.
+fn no_text_reply(alloc: Global, line: &[u8]) -> Result<Vec<u8>, Lost>
+    ensures { Written vec_items (line_with line.now (codes "?")) result }
+{
+    if is_passed_over(line) {
+        return line.to_vec(alloc).map_err(Lost::Answer);
+    }
+    answered(alloc, line, b"?")
+}
+
+/// What is written back for a line. Where memory fails, what stands on the desk is never lost: the call is not made, or it is made and its answer is lost.
+#[tactic(auto, using(crate::proofs::Replying::replied_no_text))]
+pub fn reply(alloc: Global, desk: &mut Desk, line: &[u8]) -> Result<Vec<u8>, Lost>
+    ensures { Answers vec_items (Replied desk.old line.now) desk.old desk.new result }
+{
+    match str::from_utf8(line) {
+        Ok(text) => text_reply(alloc, desk, text),
+        Err(_) => no_text_reply(alloc, line),
+    }
 }

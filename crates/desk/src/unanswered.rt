@@ -1,46 +1,60 @@
 // Why a call has no answer of its own.
-ghost use Rattle.std.specs.Prelude.{◌≡◌, Some, IfOk};
-ghost use Rattle.script.specs.declared.no_call.NoCall.TheVariants as call;
-ghost use Rattle.desk.specs.Unanswered.{instead};
-ghost use Rattle.desk.specs.declared.unanswered.Unanswered.TheVariants as of;
+ghost use Rattle.std.specs.Prelude.{◌≡◌, Ok, Err, MatchResult};
+ghost use Rattle.desk.specs.Unanswered.{unread, instead};
+ghost use Rattle.desk.specs.declared.lost.Lost.TheVariants.{Call};
+ghost use Rattle.desk.specs.declared.unanswered.Unanswered.TheVariants as why;
 
+use crate::lost::Lost;
 use script::NoCall;
-use std::alloc::{AllocError, Global};
+use std::alloc::AllocError;
 
 /// Why a call has no answer of its own.
 #[derive(Clone, Copy)]
 pub(crate) enum Unanswered {
-    /// What stands behind the word is no call, or there was no memory to read or to answer it.
-    NoCall(NoCall),
+    /// What stands behind the word is no call.
+    NoCall,
     /// There is no rack on the desk.
     NoRack,
+    /// Memory has failed.
+    Lost(Lost),
 }
 
 impl Unanswered {
-    // What is said in the place of an answer.
-    pub(crate) fn told(self, alloc: Global) -> Result<Vec<u8>, AllocError>
-        ensures { IfOk result (λ v. instead self ≡ Some v.items) }
+    // What is said in the place of an answer, or what is lost.
+    pub(crate) fn instead(self) -> Result<&'static [u8], Lost>
+        ensures { MatchResult result (λ text. instead self ≡ Ok text.now) (λ lost. instead self ≡ Err lost) }
     {
         match self {
-            Unanswered::NoCall(NoCall::Unreadable) => b"?".to_vec(alloc),
-            Unanswered::NoCall(NoCall::Memory(e)) => Err(e),
-            Unanswered::NoRack => b"no rack".to_vec(alloc),
+            Unanswered::NoCall => Ok(b"?"),
+            Unanswered::NoRack => Ok(b"no rack"),
+            Unanswered::Lost(lost) => Err(lost),
         }
     }
 }
 
 impl From<NoCall> for Unanswered {
-    ghost from_gives = { λ e r. r ≡ of.NoCall e };
+    ghost from_gives = { λ e r. r ≡ unread e };
 
     fn from(e: NoCall) -> Unanswered {
-        Unanswered::NoCall(e)
+        match e {
+            NoCall::Unreadable => Unanswered::NoCall,
+            NoCall::Memory(e) => Lost::from(e).into(),
+        }
+    }
+}
+
+impl From<Lost> for Unanswered {
+    ghost from_gives = { λ e r. r ≡ why.Lost e };
+
+    fn from(e: Lost) -> Unanswered {
+        Unanswered::Lost(e)
     }
 }
 
 impl From<AllocError> for Unanswered {
-    ghost from_gives = { λ e r. r ≡ of.NoCall (call.Memory e) };
+    ghost from_gives = { λ e r. r ≡ why.Lost (Call e) };
 
     fn from(e: AllocError) -> Unanswered {
-        Unanswered::NoCall(e.into())
+        Lost::from(e).into()
     }
 }

@@ -38,6 +38,10 @@ abbrev pub call_text : Option Seen → List ℕ
 call_text None = codes "?"
 call_text (Some c) = lines_before c ++ answer_text (answer_to c)
 
+-- a line with its answer behind it; one that is passed over stays as it is
+abbrev pub line_with : List ℕ → List ℕ → List ℕ
+line_with line answer = cond (passed_over line) line (line ++ (codes " -> " ++ answer))
+
 -- what is written back for a line
 abbrev pub reply_text : List ℕ → List ℕ
-reply_text line = cond (passed_over line) line (line ++ (codes " -> " ++ call_text (called line)))
+reply_text line = line_with line (call_text (called line))

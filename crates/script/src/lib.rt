@@ -12,6 +12,6 @@ mod words;
 pub use answers::{Answer, answer_for};
 pub use calls::{Call, Rehearsal, read, split_word};
 pub use fields::numbers;
-pub use lines::reply;
+pub use lines::{is_passed_over, reply};
 pub use no_call::NoCall;
 pub use words::Word;

@@ -84,18 +84,18 @@ fn line_answer(alloc: Global, line: &str) -> Result<String, AllocError>
     }
 }
 
-// Whether a line is empty or begins with `#`.
-fn is_passed_over(line: &str) -> bool
+/// Whether a line is empty or begins with `#`: asked of its bytes, for it need not be text.
+pub fn is_passed_over(line: &[u8]) -> bool
     ensures { result ≡ passed_over line.now }
 {
-    line.is_empty() || line.starts_with('#')
+    line.is_empty() || line[0] == b'#'
 }
 
 /// What is written back for a line: an empty one or one that begins with `#` as it is, any other with ` -> ` and the answer behind it, `?` where it is no call.
 pub fn reply(alloc: Global, line: &str) -> Result<String, AllocError>
     ensures { IfOk result (λ s. string_bytes s ≡ reply_text line.now) }
 {
-    if is_passed_over(line) {
+    if is_passed_over(line.as_bytes()) {
         return String::from_str(alloc, line);
     }
     let answer = line_answer(alloc, line)?;

@@ -1,14 +1,20 @@
 // The test program: a script on standard input, a call a line, and each line written back with its answer.
 #![tactic(auto)]
 
-use desk::{Desk, reply};
+use desk::{Desk, reply, without_end};
 use std::io::{BufRead, BufReader, Write};
 
 fn main(rt: HostRuntime) -> anyhow::Result<()> {
     let mut desk: Desk = None;
-    for line in BufReader::new(rt.alloc(), rt.stdin())?.lines(rt.alloc()) {
-        let text = line?;
-        let back = reply(rt.alloc(), &mut desk, text.as_str())?;
+    let mut input = BufReader::new(rt.alloc(), rt.stdin())?;
+    let mut line = Vec::new(rt.alloc());
+    // Nothing says that an input ends, so its lines are counted, as std counts them.
+    for _ in 0..u64::MAX {
+        line.clear();
+        if input.read_until(b'\n', &mut line)? == 0 {
+            break;
+        }
+        let back = reply(rt.alloc(), &mut desk, without_end(line.as_slice()))?;
         rt.write_all(back.as_slice())?;
         rt.write_all(b"\n")?;
     }

@@ -1,0 +1,25 @@
+-- What is lost where memory fails, and what that leaves.
+use Rattle.std.specs.Prelude.{◌≡◌, ℕ, List, Ok, Err, Result, codes}
+use Rattle.desk.specs.declared.lost.Lost.{Lost}
+use Rattle.desk.specs.declared.lost.Lost.TheVariants.{Call, Answer}
+
+-- the call is lost: it is not made, and all is as before; or its answer is lost: the call is made, and all is as it would be with an answer that fits
+abbrev pub Leaves : {S : Type 0} → (List ℕ → S → Type 0) → S → S → Lost → Type 0
+Leaves fits before after (Call e) = after ≡ before
+Leaves fits before after (Answer e) = (text : List ℕ) × fits text after
+
+-- the answer fits what is left, or is lost
+abbrev pub Answers : {A S : Type 0} → (A → List ℕ) → (List ℕ → S → Type 0) → S → S → Result A Lost → Type 0
+Answers bytes fits before after (Ok a) = fits (bytes a) after
+Answers bytes fits before after (Err lost) = Leaves fits before after lost
+
+-- the text is written, or the answer is lost
+abbrev pub Written : {A : Type 0} → (A → List ℕ) → List ℕ → Result A Lost → Type 0
+Written bytes text (Ok a) = bytes a ≡ text
+Written bytes text (Err (Answer e)) = Unit {0}
+Written bytes text (Err (Call e)) = ⊥
+
+-- what is said of what is lost
+abbrev pub lost_text : Lost → List ℕ
+lost_text (Call e) = codes "out of memory: the call is not made"
+lost_text (Answer e) = codes "out of memory: the call is made, and its answer lost"

@@ -1,0 +1,46 @@
+// What is lost where memory fails.
+ghost use Rattle.std.specs.Prelude.{◌≡◌, Some, IfSome, string_bytes};
+ghost use Rattle.desk.specs.Lost.{lost_text, Written};
+ghost use Rattle.desk.specs.declared.lost.Lost.TheVariants.{Call};
+
+use std::alloc::{AllocError, Global};
+use std::error::Error;
+use std::fmt::{self, Display};
+
+/// What is lost where memory fails: never what stands on the desk.
+#[derive(Clone, Copy, Debug, PartialEq, Eq)]
+pub enum Lost {
+    /// The call: it is not made, and the desk is as it was.
+    Call(AllocError),
+    /// The answer: the call is made, and the desk is as it leaves it.
+    Answer(AllocError),
+}
+
+// Memory that fails loses the call; behind the call, the code says itself that it loses the answer.
+impl From<AllocError> for Lost {
+    ghost from_gives = { λ e r. r ≡ Call e };
+
+    fn from(e: AllocError) -> Lost {
+        Lost::Call(e)
+    }
+}
+
+impl fmt::Display for Lost {
+    ghost output = { λ l. Some (lost_text l) };
+
+    fn fmt<W: fmt::Write>(&self, f: &mut fmt::Formatter<W>) -> fmt::Result {
+        match self {
+            Lost::Call(_) => write!(f, "out of memory: the call is not made"),
+            Lost::Answer(_) => write!(f, "out of memory: the call is made, and its answer lost"),
+        }
+    }
+}
+
+impl Error for Lost {}
+
+// The answer to a call that is made, in words.
+pub(crate) fn in_words<D: Display>(alloc: Global, answer: &D) -> Result<String, Lost>
+    ensures { IfSome (D.output answer.now) (λ text. Written string_bytes text result) }
+{
+    answer.to_string(alloc).map_err(Lost::Answer)
+}
