@@ -2,4 +2,3 @@ pub mod Reading
 pub mod Losing
 pub mod Replying
 pub mod Setups
-pub mod Records

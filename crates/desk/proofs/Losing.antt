@@ -13,7 +13,7 @@ use Rattle.desk.specs.declared.asking.Admission.{Admission}
 use Rattle.desk.specs.Asking.{Admitted, Withdrawn, OnRack, AdmitAnswer, WithdrawAnswer}
 use Rattle.desk.specs.Texts.{admit_text, withdraw_text}
 use Rattle.desk.specs.declared.lost.Lost.{Lost}
-use Rattle.desk.specs.declared.lost.Lost.TheVariants.{Call, Answer}
+use Rattle.desk.specs.declared.lost.Lost.TheVariants.{Call, Answer, Play}
 use Rattle.desk.specs.Lost.{Leaves, Answers, Written}
 use Rattle.desk.specs.declared.unanswered.Unanswered.{Unanswered}
 use Rattle.desk.specs.declared.unanswered.Unanswered.TheVariants as why
@@ -25,6 +25,7 @@ pub said_or_lost
 said_or_lost bytes fits before after text h (Ok s) e = subst (λ t. fits t after) (sym e) h
 said_or_lost bytes fits before after text h (Err (Answer m)) e = (text, h)
 said_or_lost bytes fits before after text h (Err (Call m)) e = absurd e
+said_or_lost bytes fits before after text h (Err (Play m)) e = absurd e
 
 pub admitted_or_lost
     : (r s : RackSeen) (asks : Admission) (answer : Result (ℕ × Ticks) AdmitRefusal) (blank sheet shown : List ℕ) (said : Result (String Global) Lost)
@@ -45,12 +46,14 @@ pub answer_lost
     → (lost : Lost) → Written (string_bytes {Z = Global}) text (Err lost) → (said : Result (String Global) Unanswered) → said ≡ Err (why.Lost lost) → Says string_bytes fits before after said
 answer_lost fits before after text h (Answer m) e said is = subst (Says string_bytes fits before after) (sym is) (text, h)
 answer_lost fits before after text h (Call m) e said is = absurd e
+answer_lost fits before after text h (Play m) e said is = absurd e
 
 -- what a call on the rack leaves, it leaves on the desk
 lost_on_rack
     : (does : RackSeen → List ℕ → RackSeen → Type 0) (r s : RackSeen) (lost : Lost) → Leaves (does r) r s lost → Leaves (OnRack does (Some r)) (Some r) (Some s) lost
 lost_on_rack does r s (Call m) h = ap Some h
 lost_on_rack does r s (Answer m) h = h
+lost_on_rack does r s (Play m) h = ap Some h
 
 pub admission_lost
     : (before : DeskSeen) (asked : Option Admission) (said : Result (String Global) Unanswered) (asks : Admission) (r s : RackSeen) (lost : Lost)

@@ -5,15 +5,22 @@ use Rattle.std.specs.Str.{IsUtf8}
 use Rattle.script.specs.Lines.{line_with}
 use Rattle.desk.specs.Desk.{DeskSeen}
 use Rattle.desk.specs.declared.words.Word.{Word}
+use Rattle.desk.specs.declared.words.Word.TheVariants as words
 use Rattle.desk.specs.declared.lost.Lost.{Lost}
-use Rattle.desk.specs.declared.lost.Lost.TheVariants.{Call, Answer}
+use Rattle.desk.specs.declared.lost.Lost.TheVariants.{Call, Answer, Play}
 use Rattle.desk.specs.declared.unanswered.Unanswered.{Unanswered}
 use Rattle.desk.specs.declared.unanswered.Unanswered.TheVariants as why
 use Rattle.desk.specs.Lost.{Leaves, Answers, Written}
-use Rattle.desk.specs.Unanswered.{SaysInstead, instead}
+use Rattle.desk.specs.Unanswered.{Says, SaysInstead, instead}
 use Rattle.desk.specs.Names.{name_of}
 use Rattle.desk.specs.Replies.{Told, ToldBehind, Replied, call, no_text}
 use Rattle.desk.proofs.Losing.{said_or_lost}
+
+-- what the player is told to do, it does beside any desk
+pub played
+    : (word : Word) (rest : List ℕ) (desk : DeskSeen) (said : Result (Vec ℕ Global) Unanswered)
+    → word ≡ words.Play → ((d : DeskSeen) → Says vec_items (Told words.Play rest d) d d said) → Says vec_items (Told word rest desk) desk desk said
+played word rest desk said e h = subst (λ w. Says vec_items (Told w rest desk) desk desk said) (sym e) (h desk)
 
 -- what is told is written behind the line, or is lost
 pub told_answer
@@ -38,6 +45,7 @@ told_instead line rest word before after unanswered text said h is e =
 lost_behind
     : (line rest : List ℕ) (word : Word) (before after : DeskSeen) (lost : Lost) → Leaves (Told word rest before) before after lost → Leaves (ToldBehind line word rest before) before after lost
 lost_behind line rest word before after (Call m) h = h
+lost_behind line rest word before after (Play m) h = h
 lost_behind line rest word before after (Answer m) h = (line ++ (codes " -> " ++ h.0), record { text = h.0; told = h.1; whole = refl })
 
 instead_lost : {S : Type 0} (fits : List ℕ → S → Type 0) (before after : S) (unanswered : Unanswered) (lost : Lost) → SaysInstead fits before after unanswered → instead unanswered ≡ Err lost → Leaves fits before after lost
@@ -58,6 +66,7 @@ pub replied_told
     → IsUtf8 line → line ≡ name_of word ++ (32 ∷ rest) → Answers vec_items (ToldBehind line word rest before) before after said → Answers vec_items (Replied before line) before after said
 replied_told line rest word before after (Ok v) u b h = (call word rest, record { is_text = u; begins = b; told = h })
 replied_told line rest word before after (Err (Call m)) u b h = h
+replied_told line rest word before after (Err (Play m)) u b h = h
 replied_told line rest word before after (Err (Answer m)) u b h = (h.0, (call word rest, record { is_text = u; begins = b; told = h.1 }))
 
 -- a line that is no text

@@ -4,7 +4,7 @@ ghost use Rattle.rackfile.specs.Files.{reading};
 ghost use Rattle.desk.specs.Files.{file_text, reading_text};
 
 use preferences::Policy;
-use rackfile::{ReadError, read_file};
+use rackfile::read_file;
 use std::alloc::{AllocError, Global};
 use std::fmt;
 
@@ -31,7 +31,7 @@ impl fmt::Display for FileText {
 pub fn read_answer(alloc: Global, input: &[u8]) -> Result<String, AllocError>
     ensures { IfOk result (λ s. string_bytes s ≡ reading_text (reading input.now)) }
 {
-    match read_file(alloc, input) {
+    match read_file(input) {
         Ok(file) => {
             let text = FileText {
                 policy: file.policy,
@@ -40,7 +40,6 @@ pub fn read_answer(alloc: Global, input: &[u8]) -> Result<String, AllocError>
             };
             text.to_string(alloc)
         }
-        Err(ReadError::Fault(fault)) => fault.to_string(alloc),
-        Err(ReadError::Memory(e)) => Err(e),
+        Err(fault) => fault.to_string(alloc),
     }
 }

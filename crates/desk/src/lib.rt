@@ -24,6 +24,5 @@ pub use files::read_answer;
 pub use hex::bytes_from;
 pub use lost::Lost;
 pub use making::Setup;
-pub use plays::play_told;
 pub use replies::reply;
 pub use words::{Word, asked};

@@ -1,19 +1,22 @@
 // What is lost where memory fails.
-ghost use Rattle.std.specs.Prelude.{◌≡◌, Some, IfSome, string_bytes};
+ghost use Rattle.std.specs.Prelude.{◌≡◌, IfSome, string_bytes};
 ghost use Rattle.desk.specs.Lost.{lost_text, Written};
-ghost use Rattle.desk.specs.declared.lost.Lost.TheVariants.{Call};
+ghost use Rattle.desk.specs.declared.lost.Lost.TheVariants.{Call, Play};
 
+use playing::Halt;
 use std::alloc::{AllocError, Global};
 use std::error::Error;
 use std::fmt::{self, Display};
 
-/// What is lost where memory fails: never what stands on the desk.
-#[derive(Clone, Copy, Debug, PartialEq, Eq)]
+/// What is lost where memory or the player fails: never what stands on the desk.
+#[derive(Debug, Drop)]
 pub enum Lost {
     /// The call: it is not made, and the desk is as it was.
     Call(AllocError),
     /// The answer: the call is made, and the desk is as it leaves it.
     Answer(AllocError),
+    /// The player's text: the player has halted before it was whole, and the desk is as it was.
+    Play(Halt),
 }
 
 // Memory that fails loses the call; behind the call, the code says itself that it loses the answer.
@@ -25,13 +28,22 @@ impl From<AllocError> for Lost {
     }
 }
 
+impl From<Halt> for Lost {
+    ghost from_gives = { λ e r. r ≡ Play e };
+
+    fn from(e: Halt) -> Lost {
+        Lost::Play(e)
+    }
+}
+
 impl fmt::Display for Lost {
-    ghost output = { λ l. Some (lost_text l) };
+    ghost output = { lost_text };
 
     fn fmt<W: fmt::Write>(&self, f: &mut fmt::Formatter<W>) -> fmt::Result {
         match self {
             Lost::Call(_) => write!(f, "out of memory: the call is not made"),
             Lost::Answer(_) => write!(f, "out of memory: the call is made, and its answer lost"),
+            Lost::Play(halt) => halt.fmt(f),
         }
     }
 }

@@ -33,12 +33,13 @@ fn read(alloc: Global, rest: &str) -> Result<String, NoCall>
 }
 
 // The answer to a call, or why it has none of its own.
+#[tactic(auto, using(crate::proofs::Replying::played))]
 fn answer(alloc: Global, desk: &mut Desk, word: Word, rest: &str) -> Result<Vec<u8>, Unanswered>
     ensures { Says vec_items (Told word rest.now desk.old) desk.old desk.new result }
 {
     let text = match word {
         Word::Read => read(alloc, rest)?,
-        Word::Play => return Ok(play_told(alloc, rest.as_bytes())?),
+        Word::Play => return play_told(alloc, rest),
         Word::Make => make(alloc, desk, rest)?,
         Word::Admit => admit(alloc, desk, rest)?,
         Word::Withdraw => withdraw(alloc, desk, rest)?,
@@ -59,13 +60,7 @@ fn answered(alloc: Global, line: &[u8], text: &[u8]) -> Result<Vec<u8>, Lost>
 
 // A call with what it is told behind it: the answer, `?` where it is none, `no rack` where it asks for one and there is none.
 #[tactic(auto, using(crate::proofs::Replying::told_answer, crate::proofs::Replying::told_instead, crate::proofs::Replying::told_lost))]
-fn told(
-    alloc: Global,
-    desk: &mut Desk,
-    line: &str,
-    word: Word,
-    rest: &str,
-) -> Result<Vec<u8>, Lost>
+fn told(alloc: Global, desk: &mut Desk, line: &str, word: Word, rest: &str) -> Result<Vec<u8>, Lost>
     ensures { Answers vec_items (ToldBehind line.now word rest.now desk.old) desk.old desk.new result }
 {
     match answer(alloc, desk, word, rest) {

@@ -1,21 +1,22 @@
 // Why a call has no answer of its own.
 ghost use Rattle.std.specs.Prelude.{◌≡◌, Ok, Err, MatchResult};
 ghost use Rattle.desk.specs.Unanswered.{unread, instead};
-ghost use Rattle.desk.specs.declared.lost.Lost.TheVariants.{Call};
+ghost use Rattle.desk.specs.declared.lost.Lost.TheVariants.{Call, Play};
 ghost use Rattle.desk.specs.declared.unanswered.Unanswered.TheVariants as why;
 
 use crate::lost::Lost;
+use playing::Halt;
 use script::NoCall;
 use std::alloc::AllocError;
 
 /// Why a call has no answer of its own.
-#[derive(Clone, Copy)]
+#[derive(Drop)]
 pub(crate) enum Unanswered {
     /// What stands behind the word is no call.
     NoCall,
     /// There is no rack on the desk.
     NoRack,
-    /// Memory has failed.
+    /// Memory or the player has failed.
     Lost(Lost),
 }
 
@@ -55,6 +56,14 @@ impl From<AllocError> for Unanswered {
     ghost from_gives = { λ e r. r ≡ why.Lost (Call e) };
 
     fn from(e: AllocError) -> Unanswered {
+        Lost::from(e).into()
+    }
+}
+
+impl From<Halt> for Unanswered {
+    ghost from_gives = { λ e r. r ≡ why.Lost (Play e) };
+
+    fn from(e: Halt) -> Unanswered {
         Lost::from(e).into()
     }
 }
