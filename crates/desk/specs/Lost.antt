@@ -1,5 +1,6 @@
 -- What is lost where memory fails, and what that leaves.
-use Rattle.std.specs.Prelude.{◌≡◌, ℕ, List, Some, None, Ok, Err, Option, Result, codes}
+use Rattle.std.specs.Prelude.{◌≡◌, ℕ, List, Some, Ok, Err, Option, Result, codes}
+use Rattle.playing.specs.Streams.{halt_text}
 use Rattle.desk.specs.declared.lost.Lost.{Lost}
 use Rattle.desk.specs.declared.lost.Lost.TheVariants.{Call, Answer, Play}
 
@@ -25,4 +26,4 @@ Written bytes text (Err (Play halt)) = ⊥
 abbrev pub lost_text : Lost → Option (List ℕ)
 lost_text (Call e) = Some (codes "out of memory: the call is not made")
 lost_text (Answer e) = Some (codes "out of memory: the call is made, and its answer lost")
-lost_text (Play halt) = None
+lost_text (Play halt) = halt_text halt
