@@ -78,6 +78,9 @@ impl Write for Sink {
     }
 
     fn flush(&mut self) -> io::Result<()> {
+        if self.good == 0 {
+            return Err(Error::other("the writer fails"));
+        }
         Ok(())
     }
 }
@@ -183,12 +186,12 @@ fn reads_fail(rt: HostRuntime) -> Result<(), Fail> {
     Ok(())
 }
 
-// A writer that fails at its first block, at its second, and so on: what is written by then is the front of the text.
+// A writer that fails at its first block, at its second, and so on to the flush behind the seventh: what is written by then is the front of the text.
 #[test]
 fn writes_fail(rt: HostRuntime) -> Result<(), Fail> {
     let file = file_of(rt.alloc(), "saw", 40)?;
     let wanted = text_of(rt.alloc(), "saw", 40)?;
-    for good in 0..7 {
+    for good in 0..8 {
         let source = Source::new(file.as_slice(), 1000, 1000);
         let (ended, text) = played(rt.alloc(), source, Sink::new(rt.alloc(), 64, good))?;
         assert!(rt;
