@@ -1,5 +1,6 @@
 // What comes in and goes out, so that it is known also after an error how much was read or written.
-ghost use Rattle.std.specs.Prelude.{vec_len};
+ghost use Rattle.std.specs.Prelude.{◌≡◌, ◌≢◌, IfErr, vec_len};
+ghost use Rattle.std.specs.IoError.{error_kind};
 ghost use Rattle.playing.specs.Streams.{Fills, TakesUp, ReadsInput, Puts, Finishes};
 
 use crate::halt::Halt;
@@ -11,14 +12,17 @@ use std::io::{BufWriter, Error, ErrorKind, Read, Write};
 const MOST_READ: usize = 65_537;
 
 // The error where a loop over interrupted calls ends.
-fn gave_up() -> Error {
+fn gave_up() -> Error
+    ensures { error_kind result ≡ ErrorKind.TimedOut }
+{
     Error::new(ErrorKind::TimedOut, "interrupted too often")
 }
 
 // Reads into the buffer from its front, until it is full or nothing more comes, and answers how many bytes came. An interrupted read is tried again.
 #[tactic(auto, using(crate::proofs::Moving::readings))]
 fn fill<R: Read>(reader: &mut R, buffer: &mut [u8]) -> io::Result<usize>
-    ensures { Fills (R.remaining reader.old) (R.remaining reader.new) buffer.new result }
+    ensures fills { Fills (R.remaining reader.old) (R.remaining reader.new) buffer.new result }
+    ensures retried { IfErr result (λ e. error_kind e ≢ ErrorKind.Interrupted) }
 {
     let mut filled = 0;
     for _ in 0..u64::MAX {
@@ -57,7 +61,8 @@ pub(crate) fn read_input<R: Read>(alloc: Global, reader: &mut R) -> Result<Vec<u
 // Writes all the bytes. An interrupted write is tried again.
 #[tactic(auto, using(crate::proofs::Moving::writings))]
 pub(crate) fn put<W: Write>(writer: &mut W, bytes: &[u8]) -> io::Result<()>
-    ensures { Puts (W.contents writer.old) (W.contents writer.new) bytes.now result }
+    ensures puts { Puts (W.contents writer.old) (W.contents writer.new) bytes.now result }
+    ensures retried { IfErr result (λ e. error_kind e ≢ ErrorKind.Interrupted) }
 {
     let mut written = 0;
     for _ in 0..u64::MAX {

@@ -4,7 +4,7 @@ ghost use Rattle.rackfile.specs.Files.{is_mark, is_version, processors_allowed, 
 ghost use Rattle.rackfile.specs.Exact.{FileRead};
 
 use crate::bytes::Reader;
-use crate::fault::{BytesFault, FileFault};
+use crate::fault::FileFault;
 use crate::records::Records;
 use preferences::Policy;
 
@@ -53,11 +53,12 @@ fn count_from(more: u8, less: u8) -> u16
 
 // The fault of a header that is cut short, field by field: a chain of `if`s, since the first wrong field decides.
 // Apart from `read_header`, which takes a whole header by one pattern: a rule of the project.
-fn short_fault(whole: usize, header: &[u8]) -> FileFault
-    requires { length header.now < 9 }
-    ensures { header_fault whole header.now ≡ Some result }
+fn short_fault(reader: &Reader<'_>) -> FileFault
+    requires { length reader.now.left.now < 9 }
+    ensures { header_fault reader.now.whole reader.now.left.now ≡ Some result }
 {
-    let cut = FileFault::from(BytesFault::Cut { place: whole });
+    let header = reader.left;
+    let cut = reader.cut().into();
     if header.len() < 3 {
         return cut;
     }
@@ -102,7 +103,7 @@ fn read_header(reader: &mut Reader<'_>) -> Result<Header, FileFault>
         rest @ ..,
     ] = reader.left
     else {
-        return Err(short_fault(reader.whole, reader.left));
+        return Err(short_fault(reader));
     };
     if !has_mark(*r, *a, *k) {
         return Err(FileFault::Mark);

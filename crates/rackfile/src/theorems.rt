@@ -25,7 +25,7 @@ pub fn not_both()
     ensures { NotBoth }
 {}
 
-/// The bytes of every file within the limits are bytes, and reading them gives that file.
+/// The bytes of every file within the limits, each label at its place, are bytes, and reading them gives that file.
 pub fn file_reads_back()
     ensures { FileReadsBack }
 {}
@@ -36,7 +36,7 @@ pub fn labels_are_there()
     ensures { LabelsAreThere }
 {}
 
-/// A fault of 13 to 17 stays the same whatever bytes follow.
+/// A fault of 13 to 17 stays the same whatever bytes follow, up to 65,536 in all.
 pub fn faults_stay()
     ensures { FaultsStay }
 {}
@@ -53,12 +53,12 @@ pub fn faults_tell()
     ensures { FaultsTell }
 {}
 
-/// 17 is exactly where bytes follow a file.
+/// 17 is exactly where bytes follow a file, up to 65,536 in all.
 pub fn trailing_behind_file()
     ensures { TrailingExactly }
 {}
 
-/// 12 is exactly where an input could go on to a file, or to a fault that a field shows.
+/// 12 is exactly where an input of at most 65,536 bytes could go on to a file, or to a fault that a field shows, and does not say so yet.
 #[tactic(auto, using(crate::proofs::FaultLaws::cut_exactly))]
 pub fn cut_exactly()
     ensures { CutExactly }
