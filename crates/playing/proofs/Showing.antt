@@ -1,5 +1,6 @@
 -- Which refusals a line can show.
-use Rattle.std.proofs.Common.{◌≡◌, ℕ, ◌≤◌, Bool, true, false, not, cond, eqb, ltb, List, length, Some, None, Err, inl, inr, refl, arith}
+use Rattle.std.proofs.Common.{◌≡◌, ℕ, ◌≤◌, Bool, true, false, not, cond, eqb, ltb, List, length, Some, None, Err, inl, inr, refl, arith, Ok, Result, ap}
+use Rattle.std.proofs.lemmas.List.{length-set}
 use Rattle.std.specs.Option.{option_or}
 use Rattle.std.proofs.lemmas.Bool.{le-ltb}
 use Rattle.tasks.specs.declared.task.Task.{Task}
@@ -15,7 +16,8 @@ use Rattle.seating.specs.declared.refused.Refused.TheVariants.{Admitting, Withdr
 use Rattle.seating.specs.Refusals.{number_of}
 use Rattle.seating.specs.Seats.{seated, all_full}
 use Rattle.seating.specs.Admission.{earlier}
-use Rattle.book.specs.Book.{Book, Right}
+use Rattle.tasks.specs.declared.units.Ticks.{Ticks}
+use Rattle.book.specs.Book.{Book, Event, after, Right}
 use Rattle.book.specs.Book as call
 use Rattle.playing.specs.Lines.{RefusalsShown}
 
@@ -47,5 +49,19 @@ admissions policy b x sheet sheet' NoTaker few long r = (omega arith, omega arit
 withdrawals : (e : WithdrawRefusal) → number_of (Withdrawing e) ≡ 9
 withdrawals NotSeated = refl
 
+sheets : (policy : Policy) (b : Book) (x : Task) (sheet sheet' : List ℕ) (a : Result (ℕ × Ticks) AdmitRefusal) → Right least_good_point (policy_before policy) b (call.admits x sheet a sheet') → length sheet' ≡ length sheet
+sheets policy b x sheet sheet' (Ok a) r = ap length r.sheet_stays
+sheets policy b x sheet sheet' (Err e) (inl r) = ap length r.sheet_stays
+sheets policy b x sheet sheet' (Err e) (inr r) = r.1.as_long
+
+books : (b : Book) (e : Event) → length (after least_good_point b e) ≡ length b
+books b (call.admits x sheet (Ok a) sheet') = length-set b a.0 _
+books b (call.admits x sheet (Err e) sheet') = refl
+books b (call.withdraws n (Ok a)) = length-set b a.0 _
+books b (call.withdraws n (Err e)) = refl
+books b (call.finds n a) = refl
+books b (call.loads p a) = refl
+books b (call.lists p a) = refl
+
 pub refusals_shown : RefusalsShown
-refusals_shown = record { admissions = admissions; withdrawals = withdrawals }
+refusals_shown = record { admissions = admissions; withdrawals = withdrawals; sheets = sheets; books = books }

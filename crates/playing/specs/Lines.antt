@@ -61,8 +61,12 @@ OneText = (input : List ℕ) → One (List ℕ) (PlayerText input)
 abbrev pub FrontDecides : Type 0
 FrontDecides = (input text : List ℕ) → PlayerText (take 65537 input) text ↔ PlayerText input text
 
--- With a sheet of 16 entries and at most 16 processors a refused admission is one of 3 to 8, and a refused withdrawal is 9.
+-- With a sheet of 16 entries and at most 16 processors a refused admission is one of 3 to 8, and a refused withdrawal is 9. A book and a sheet stay as long as they are, so that this
+-- holds for every line of a file.
 pub record RefusalsShown : Type 0 where
   pub admissions : (policy : Policy) (b : Book) (x : Task) (sheet sheet' : List ℕ) (e : AdmitRefusal) → length b ≤ 16 → length sheet ≡ 16
       → Right least_good_point (policy_before policy) b (call.admits x sheet (Err e) sheet') → (3 ≤ refusals.number_of (Admitting e)) × (refusals.number_of (Admitting e) ≤ 8)
   pub withdrawals : (e : WithdrawRefusal) → refusals.number_of (Withdrawing e) ≡ 9
+  pub sheets : (policy : Policy) (b : Book) (x : Task) (sheet sheet' : List ℕ) (a : Result (ℕ × Ticks) AdmitRefusal)
+      → Right least_good_point (policy_before policy) b (call.admits x sheet a sheet') → length sheet' ≡ length sheet
+  pub books : (b : Book) (e : Event) → length (after least_good_point b e) ≡ length b
