@@ -1,5 +1,5 @@
 -- Whole inputs: of the sample what its bytes stand for, the answers that are right, and the lines.
-use Rattle.std.proofs.Common.{◌≡◌, ℕ, zero, suc, ◌<◌, true, List, [], ◌∷◌, get_or, drop, replicate, Some, Ok, Err, Result, codes, sym, refl, subst, inr, arith, lit≤}
+use Rattle.std.proofs.Common.{◌≡◌, ℕ, zero, suc, ◌<◌, true, [], ◌∷◌, get_or, drop, Some, Ok, Err, Result, codes, sym, refl, subst, inr, arith, lit≤}
 use Rattle.std.specs.List.{AllByRecursion}
 use Rattle.std.specs.Fmt.{digits}
 use Rattle.std.proofs.lemmas.Bool.{both_ways, lt-ltb}
@@ -23,7 +23,7 @@ use Rattle.rackfile.specs.Files.{File}
 use Rattle.rackfile.specs.Format.{Stands}
 use Rattle.rackfile.proofs.Standing.{reads}
 use Rattle.playing.specs.Lines.{Lines, blank_sheet, TextOf, PlayerText}
-use Rattle.cases.specs.Cases.{Settled, whole, sample, sample_text, seat}
+use Rattle.cases.specs.Cases.{Settled, answers, whole, sample, sample_text, seat, two_lists, written_sheet}
 use Rattle.cases.proofs.Few.{of_two, only_at}
 
 abbrev saw : Task
@@ -56,10 +56,6 @@ big_unfit_1 : FitsAt (drl ∷ big ∷ []) 1 → ⊥
 unfolding up least
 big_unfit_1 g = both_ways _ (points_lawful.complete big (drl ∷ []) refl refl g.0) g.1
 
--- the sheet after the refusal: the newcomer itself has no good instant on either processor
-abbrev written_sheet : List ℕ
-written_sheet = 4 ∷ 4 ∷ replicate 14 0
-
 -- the book before each record
 abbrev book_0 : Book
 book_0 = [] ∷ [] ∷ []
@@ -69,9 +65,6 @@ book_1 = (seat 1 2 5 5 ∷ []) ∷ [] ∷ []
 
 abbrev book_2 : Book
 book_2 = (seat 1 2 5 5 ∷ seat 2 4 10 10 ∷ []) ∷ [] ∷ []
-
-abbrev book_3 : Book
-book_3 = (seat 1 2 5 5 ∷ seat 2 4 10 10 ∷ []) ∷ (seat 3 3 10 10 ∷ []) ∷ []
 
 right_0 : Right least_good_point first_fit book_0 (admits saw blank_sheet (Ok (0, record { 0 = 5 })) blank_sheet)
 unfolding up least
@@ -99,9 +92,9 @@ right_2 : Right least_good_point first_fit book_2 (admits drl blank_sheet (Ok (1
 unfolding up least
 right_2 = record {
   passes = refl;
-  preferred = record { there = lit≤ tt; takes = record { room = lit≤ tt; fits = kept_fits (get_or book_3 1 []) refl }; first = of_two (λ q. (q ≡ 1 → ⊥) → WouldTake drl (on book_2 q) → first_fit (as_seen book_2 1) (as_seen book_2 q) ≡ true) (λ ne w. absurd (drl_unfit (w.fits 2 (lit≤ tt)))) (λ ne w. absurd (ne refl)) };
+  preferred = record { there = lit≤ tt; takes = record { room = lit≤ tt; fits = kept_fits (get_or two_lists 1 []) refl }; first = of_two (λ q. (q ≡ 1 → ⊥) → WouldTake drl (on book_2 q) → first_fit (as_seen book_2 1) (as_seen book_2 q) ≡ true) (λ ne w. absurd (drl_unfit (w.fits 2 (lit≤ tt)))) (λ ne w. absurd (ne refl)) };
   instant = refl;
-  joins = record { tasks = refl; above = refl; judged = only_at (λ k. said least_good_point (drl ∷ []) k ≡ Some (get_or (get_or book_3 1 []) k no_seat).instant) 0 refl };
+  joins = record { tasks = refl; above = refl; judged = only_at (λ k. said least_good_point (drl ∷ []) k ≡ Some (get_or (get_or two_lists 1 []) k no_seat).instant) 0 refl };
   others = refl;
   sheet_stays = refl;
 }
@@ -114,17 +107,17 @@ fits_one : (k : ℕ) → k < 1 → FitsAt (drl ∷ big ∷ []) k
 unfolding up
 fits_one k lt = only_at (FitsAt (drl ∷ big ∷ [])) 0 (10, refl) k (omega arith) lt
 
-entries : (q : ℕ) → q < 2 → Entry big (on book_3 q) (get_or written_sheet q 0)
-entries = of_two (λ q. Entry big (on book_3 q) (get_or written_sheet q 0))
+entries : (q : ℕ) → q < 2 → Entry big (on two_lists q) (get_or written_sheet q 0)
+entries = of_two (λ q. Entry big (on two_lists q) (get_or written_sheet q 0))
     (inr (lit≤ tt, record { at = 2; within = lit≤ tt; unfit = big_unfit; before = fits_two; number = refl }))
     (inr (lit≤ tt, record { at = 1; within = lit≤ tt; unfit = big_unfit_1; before = fits_one; number = refl }))
 
-right_3 : Right least_good_point first_fit book_3 (admits big blank_sheet (Err NoTaker) written_sheet)
+right_3 : Right least_good_point first_fit two_lists (admits big blank_sheet (Err NoTaker) written_sheet)
 right_3 = inr (
   refl,
   record {
     passes = refl;
-    nobody = of_two (λ q. WouldTake big (on book_3 q) → ⊥) (λ w. big_unfit (w.fits 2 (lit≤ tt))) (λ w. big_unfit_1 (w.fits 1 (lit≤ tt)));
+    nobody = of_two (λ q. WouldTake big (on two_lists q) → ⊥) (λ w. big_unfit (w.fits 2 (lit≤ tt))) (λ w. big_unfit_1 (w.fits 1 (lit≤ tt)));
     entries = entries;
     as_long = refl;
     rest = refl;
@@ -132,8 +125,11 @@ right_3 = inr (
   },
 )
 
-right_4 : Right least_good_point first_fit book_3 (withdraws 2 (Ok (0, record { 0 = 4 }, record { 0 = 10 })))
+right_4 : Right least_good_point first_fit two_lists (withdraws 2 (Ok (0, record { 0 = 4 }, record { 0 = 10 })))
 right_4 = record { at = 1; sits = record { there = lit≤ tt; within = lit≤ tt; number = refl }; its_work = refl; its_period = refl; seats = refl }
+
+pub all_answered : AllByRecursion Settled answers
+all_answered = (right_3, (right_4, tt))
 
 -- what the bytes stand for
 abbrev file : File
@@ -147,11 +143,11 @@ file_stands : Stands sample file
 file_stands = record { bytes = refl; short = lit≤ tt; processors = refl; few = lit≤ tt; allowed = refl; places = refl }
 
 -- the lines from each record on
-from_4 : Lines First book_3 written_sheet 4 (drop 4 file.records) (codes "4 W 2 0\n")
+from_4 : Lines First two_lists written_sheet 4 (drop 4 file.records) (codes "4 W 2 0\n")
 unfolding digits
 from_4 = (Ok (0, record { 0 = 4 }, record { 0 = 10 }), record { right = right_4; rest = []; whole = refl; goes_on = refl })
 
-from_3 : Lines First book_3 blank_sheet 3 (drop 3 file.records) (codes "3 A big R8\n4 W 2 0\n")
+from_3 : Lines First two_lists blank_sheet 3 (drop 3 file.records) (codes "3 A big R8\n4 W 2 0\n")
 unfolding digits
 from_3 = (Err NoTaker, written_sheet, record { right = right_3; rest = _; whole = refl; goes_on = from_4 })
 

@@ -1,5 +1,5 @@
 -- Worked cases, and what each must give.
-use Rattle.std.specs.Prelude.{◌≡◌, ℕ, zero, suc, Bool, true, if◌then◌else◌, List, [], ◌∷◌, ◌++◌, replicate, Some, None, codes, Option}
+use Rattle.std.specs.Prelude.{◌≡◌, ℕ, zero, suc, Bool, true, if◌then◌else◌, List, [], ◌∷◌, ◌++◌, replicate, Some, None, Ok, Err, codes, Option}
 use Rattle.tasks.specs.declared.task.Task.{Task}
 use Rattle.tasks.specs.declared.units.Ticks.{Ticks}
 use Rattle.tasks.specs.Tasks.{task_of}
@@ -10,12 +10,17 @@ use Rattle.machine.specs.declared.state.Release.{Release}
 use Rattle.machine.specs.declared.state.Outcome.{Outcome}
 use Rattle.machine.specs.Machine.{outcome}
 use Rattle.machine.specs.Lawful.{lawful}
+use Rattle.preferences.specs.declared.policy.Policy.{Policy}
+use Rattle.preferences.specs.declared.policy.Policy.TheVariants.{First}
 use Rattle.preferences.specs.Laws.{Relation}
 use Rattle.preferences.specs.Fits.{first_fit, best_fit, worst_fit}
+use Rattle.preferences.specs.Policies.{policy_before}
 use Rattle.seating.specs.declared.seat.Seat.{Seat}
+use Rattle.seating.specs.declared.refusal.AdmitRefusal.TheVariants.{NoTaker}
 use Rattle.seating.specs.Seats.{Lists}
 use Rattle.seating.specs.Admission.{Preferred}
-use Rattle.playing.specs.Lines.{PlayerText}
+use Rattle.book.specs.Book.{Book, Event, admits, withdraws, Right}
+use Rattle.playing.specs.Lines.{blank_sheet, PlayerText}
 
 -- work C and period T
 abbrev pub task : ℕ → ℕ → Task
@@ -45,6 +50,8 @@ pub data Case : Type 0 where
   rehearsed : List Task → (horizon : ℕ) → List Release → Outcome → Case
   -- lists of seats, a newcomer and a preference: the processor that takes it
   placed : Lists → Task → Relation → (processor : ℕ) → Case
+  -- under a policy, with the points judge, on a book: a call with the answer that is right
+  answered : Policy → Book → Event → Case
   -- an input's bytes: what the player writes for them
   played : List ℕ → (text : List ℕ) → Case
 
@@ -60,6 +67,7 @@ Settled (shared x share) = share_answer x ≡ share
 Settled (pointed x above points) = those (point x above) x.period.0 ≡ points
 Settled (rehearsed ts horizon rs o) = (lawful ts horizon rs ≡ true) × (outcome ts horizon rs ≡ o)
 Settled (placed b x before p) = Preferred before b x p
+Settled (answered policy b e) = Right least_good_point (policy_before policy) b e
 Settled (played bytes text) = PlayerText bytes text
 
 -- the multiples of 100, 150 and 350 below 350
@@ -113,6 +121,17 @@ newcomer = task_of 4 1 10
 abbrev pub places : List Case
 places = placed two_lists newcomer first_fit 0 ∷ placed two_lists newcomer best_fit 0 ∷ placed two_lists newcomer worst_fit 1 ∷ []
 
+-- the sheet after a refusal: the newcomer itself has no good instant on either processor
+abbrev pub written_sheet : List ℕ
+written_sheet = 4 ∷ 4 ∷ replicate 14 0
+
+-- of the same lists, 8/10 is refused with 8, and the sheet says why; the second task leaves with its work and period
+abbrev pub answers : List Case
+answers =
+    answered First two_lists (admits (task_of 4 8 10) blank_sheet (Err NoTaker) written_sheet)
+    ∷ answered First two_lists (withdraws 2 (Ok (0, record { 0 = 4 }, record { 0 = 10 })))
+    ∷ []
+
 -- the bytes of a file of five records, under first fit on two processors
 abbrev pub sample : List ℕ
 sample =
@@ -142,4 +161,4 @@ whole =
     ∷ []
 
 abbrev pub cases : List Case
-cases = computed ++ (long ++ (places ++ whole))
+cases = computed ++ (long ++ (places ++ (answers ++ whole)))

@@ -2,7 +2,7 @@
 use Rattle.std.proofs.Common.{◌≡◌, ◌≢◌, ◌⊎◌, ℕ, zero, suc, ◌+◌, ◌-◌, ◌<◌, ◌≤◌, Bool, true, false, not, cond, eqb, ltb, leb, List, [], ◌∷◌, ◌++◌, length, get_or, take, drop, is_some, Some, None, Ok, Err, Option, Result, sym, refl, ap, ◌∙◌, subst, inl, inr, arith}
 use Rattle.std.proofs.lemmas.List.{append_assoc, length-append, length-drop, length-take-le, take-append-drop, take_at, get_or-append-add, get_or-take}
 use Rattle.std.proofs.lemmas.List.Quantifiers.{position-Some}
-use Rattle.std.proofs.lemmas.Bool.{not-true, not-false, leb-true, eqb-true, eqb-false}
+use Rattle.std.proofs.lemmas.Bool.{and_from, not-true, not-false, leb-true, eqb-true, eqb-false}
 use Rattle.preferences.specs.declared.policy.Policy.{Policy}
 use Rattle.preferences.specs.Policies.{policy_named}
 use Rattle.rackfile.specs.declared.fault.BytesFault.{BytesFault}
@@ -14,10 +14,10 @@ use Rattle.rackfile.specs.declared.fault.FileFault.TheVariants.{Record, Mark, Ve
 use Rattle.rackfile.specs.Faults.{number_of}
 use Rattle.rackfile.specs.Reading.{place_in, field, take_word}
 use Rattle.rackfile.specs.Records.{Seen, admits, withdraws, printable, first_bad, length_allowed, then, next, judged, read_text, read_label, read_admission, read_withdrawal, read_record}
-use Rattle.rackfile.specs.Files.{cut, processors_allowed, header_fault, count_in, read_records, with_records, with_header}
-use Rattle.rackfile.specs.Format.{header_bytes, record_bytes, records_bytes}
+use Rattle.rackfile.specs.Files.{cut, right_mark, right_version, processors_allowed, header_fault, count_in, read_records, with_records, with_header}
+use Rattle.rackfile.specs.Format.{header_bytes, record_bytes, records_bytes, record_allowed, all_allowed}
 use Rattle.rackfile.specs.Exact.{AreBytes}
-use Rattle.rackfile.specs.FaultLaws.{IsShown, BeginsRecord, IsWrongLabel, right_mark, right_version, Tells, FaultsTell}
+use Rattle.rackfile.specs.FaultLaws.{IsShown, BeginsRecord, IsWrongLabel, Tells, FaultsTell}
 use Rattle.rackfile.proofs.RecordBytes.{record_back}
 use Rattle.rackfile.proofs.Headers.{header_back}
 use Rattle.rackfile.proofs.Placing.{word_rest, four_more, behind_work, behind_number}
@@ -62,6 +62,7 @@ pub record Stopped (whole n : ℕ) (s : List ℕ) (f : RecordFault) : Type 0 whe
   pub records : List Seen
   pub rest : List ℕ
   pub bytes : s ≡ records_bytes records ++ rest
+  pub allowed : all_allowed records ≡ true
   pub fewer : length records < n
   pub fails : read_record whole rest ≡ Err f
 
@@ -73,21 +74,22 @@ stopped whole (suc n) s f b w e = go (λ t. stopped whole n t f) (read_record wh
     inner x (Ok y) k = absurd cc
     inner x (Err g) k = cc
 
-    one_more : (v : Seen) (t : List ℕ) → s ≡ record_bytes v ++ t → Stopped whole n t f → Stopped whole (suc n) s f
-    one_more v t is more = record {
+    one_more : (v : Seen) (t : List ℕ) → s ≡ record_bytes v ++ t → record_allowed v ≡ true → Stopped whole n t f → Stopped whole (suc n) s f
+    one_more v t is allowed more = record {
       records = v ∷ more.records;
       rest = more.rest;
       bytes = is ∙ ap (λ y. record_bytes v ++ y) more.bytes ∙ sym (append_assoc (record_bytes v) (records_bytes more.records) more.rest);
+      allowed = and_from (record_allowed v) (all_allowed more.records) allowed more.allowed;
       fewer = omega (arith, more.fewer);
       fails = more.fails;
     }
 
     go : ((t : List ℕ) → AreBytes t → length t ≤ whole → read_records whole n t ≡ Err f → Stopped whole n t f) → (r : Result (Seen × List ℕ) RecordFault) → read_record whole s ≡ r
         → ◌≡◌ {A = Run} (next r (λ x. next (read_records whole n x.1) (λ y. Ok (x.0 ∷ y.0, y.1)))) (Err f) → Stopped whole (suc n) s f
-    go ih (Err g) h k = let same : g ≡ f = cc in record { records = []; rest = s; bytes = refl; fewer = omega arith; fails = h ∙ ap (λ z. Err z) same }
+    go ih (Err g) h k = let same : g ≡ f = cc in record { records = []; rest = s; bytes = refl; allowed = refl; fewer = omega arith; fails = h ∙ ap (λ z. Err z) same }
     go ih (Ok x) h k =
         let back = record_back whole (whole - length s) s x.0 x.1 (omega arith) b h in
-        one_more x.0 x.1 back.bytes (ih x.1 back.rest (omega (arith, ap length back.bytes, length-append (record_bytes x.0) x.1)) (inner x (read_records whole n x.1) k))
+        one_more x.0 x.1 back.bytes back.allowed (ih x.1 back.rest (omega (arith, ap length back.bytes, length-append (record_bytes x.0) x.1)) (inner x (read_records whole n x.1) k))
 
 -- What is wrong with a record that can't be read.
 
@@ -110,8 +112,8 @@ clean_behind : (n i : ℕ) (s : List ℕ) → ((j : ℕ) → j < i → printable
 clean_behind n i s h zero l m = absurd (omega arith)
 clean_behind n i s h (suc k) l m = h k (omega arith)
 
-text_fails : (whole n : ℕ) (s : List ℕ) (f : RecordFault) → suc (length s) ≤ whole → read_text whole n s ≡ Err f → LabelFails whole (n ∷ s) f
-text_fails whole n s f w e = go (leb n (length s)) refl e
+text_fails : (whole n : ℕ) (s : List ℕ) (f : RecordFault) → suc (length s) ≤ whole → length_allowed n ≡ true → read_text whole n s ≡ Err f → LabelFails whole (n ∷ s) f
+text_fails whole n s f w allowed e = go (leb n (length s)) refl e
   where
     bad : (l r : List ℕ) → l ≡ take n s → length l ≡ n → n ≤ length s → (o : Option ℕ) → first_bad l ≡ o → ◌≡◌ {A = Result ((List ℕ × ℕ) × List ℕ) RecordFault} (judged (place_in whole s) (l, r) o) (Err f) → LabelFails whole (n ∷ s) f
     bad l r is long fits None h k = absurd cc
@@ -122,7 +124,7 @@ text_fails whole n s f w e = go (leb n (length s)) refl e
         let less : i < n = omega (arith, p.0) in
         let place : place_in whole s + i ≡ place_in whole (n ∷ s) + suc i = omega arith in
         let clean = λ (j : ℕ) (k : j < i). not-false (printable (get_or s j 0)) (sym (ap (λ z. not (printable z)) (at j (omega arith))) ∙ p.2 j k) in
-        inr (suc i, sym same ∙ ap (λ z. Label z) place, omega arith, inr (omega arith, omega arith, not-true (printable (get_or s i 0)) (sym (ap (λ z. not (printable z)) (at i less)) ∙ p.1), clean_behind n i s clean))
+        inr (suc i, sym same ∙ ap (λ z. Label z) place, omega arith, inr (allowed, omega arith, omega arith, not-true (printable (get_or s i 0)) (sym (ap (λ z. not (printable z)) (at i less)) ∙ p.1), clean_behind n i s clean))
 
     go : (t : Bool) → leb n (length s) ≡ t → ◌≡◌ {A = Result ((List ℕ × ℕ) × List ℕ) RecordFault} (then Bytes (field whole (cond t (Some (take n s, drop n s)) None)) (λ x. judged (place_in whole s) x (first_bad x.0))) (Err f) → LabelFails whole (n ∷ s) f
     go false q k = inl (Cut whole, let same : Bytes (Cut whole) ≡ f = cc in sym same)
@@ -133,7 +135,7 @@ label_fails whole [] f w e = inl (Cut whole, let same : Bytes (Cut whole) ≡ f 
 label_fails whole (n ∷ s) f w e = go (length_allowed n) refl e
   where
     go : (t : Bool) → length_allowed n ≡ t → ◌≡◌ {A = Result ((List ℕ × ℕ) × List ℕ) RecordFault} (cond t (read_text whole n s) (Err (Label (place_in whole (n ∷ s))))) (Err f) → LabelFails whole (n ∷ s) f
-    go true q k = text_fails whole n s f (omega arith) k
+    go true q k = text_fails whole n s f (omega arith) q k
     go false q k =
         let same : Label (place_in whole (n ∷ s)) ≡ f = cc in
         let place : place_in whole (n ∷ s) ≡ place_in whole (n ∷ s) + 0 = omega arith in
@@ -201,10 +203,13 @@ wrong_in input front label place is wrong = go wrong
     clean : ((k : ℕ) → 0 < k → k < place → printable (get_or label k 0) ≡ true) → (k : ℕ) → length front < k → k < length front + place → printable (get_or input k 0) ≡ true
     clean h k l m = ap printable (behind_front input front label (k - length front) k is (omega arith)) ∙ h (k - length front) (omega arith) (omega arith)
 
+    its_length : length_allowed (get_or input (length front) 0) ≡ length_allowed (get_or label 0 0)
+    its_length = ap length_allowed (behind_front input front label 0 (length front) is (omega arith))
+
     go : IsWrongLabel label 0 place → IsWrongLabel input (length front) (length front + place)
-    go (inl (e, bad)) = inl (omega arith, ap length_allowed (behind_front input front label 0 (length front) is (omega arith)) ∙ bad)
-    go (inr (l, m, bad, before)) =
-        inr (omega arith, omega (arith, behind_front input front label 0 (length front) is (omega arith)), ap printable (behind_front input front label place (length front + place) is refl) ∙ bad, clean before)
+    go (inl (e, bad)) = inl (omega arith, its_length ∙ bad)
+    go (inr (allowed, l, m, bad, before)) =
+        inr (its_length ∙ allowed, omega arith, omega (arith, behind_front input front label 0 (length front) is (omega arith)), ap printable (behind_front input front label place (length front + place) is refl) ∙ bad, clean before)
 
 -- The file.
 
@@ -248,6 +253,8 @@ record_tells input p e b right named h shown =
       processors = get_or input 6 0;
       records = stop.records;
       before = ap (take (length front)) whole ∙ take_at front stop.rest (length front) refl;
+      right_processors = back.processors;
+      allowed = stop.allowed;
       fewer = stop.fewer;
     } in
     go e front stop.rest whole begins (record_fails l stop.rest e (omega (arith, ap length whole, length-append front stop.rest)) stop.fails) shown

@@ -1,5 +1,5 @@
 -- Laws above the faults: what more bytes, and fewer, do to them, and what they say of the input.
-use Rattle.std.specs.Prelude.{◌≡◌, ℕ, ◌+◌, ◌^◌, ◌<◌, ◌≤◌, Bool, true, false, cond, ◌↔◌, ◌⊎◌, is_some, None, List, ◌++◌, length, take, slice_index, Ok, Err, Result, ◌≢◌}
+use Rattle.std.specs.Prelude.{◌≡◌, ℕ, ◌+◌, ◌^◌, ◌<◌, ◌≤◌, true, false, cond, ◌↔◌, ◌⊎◌, is_some, None, List, ◌++◌, length, take, slice_index, Ok, Err, Result, ◌≢◌}
 use Rattle.rackfile.specs.declared.fault.RecordFault.TheVariants.{Bytes, Tag, Label}
 use Rattle.rackfile.specs.declared.fault.FileFault.{FileFault}
 use Rattle.rackfile.specs.declared.fault.FileFault.TheVariants as fault
@@ -7,7 +7,7 @@ use Rattle.rackfile.specs.Faults.{number_of, place_of}
 use Rattle.preferences.specs.declared.policy.Policy.{Policy}
 use Rattle.preferences.specs.Policies.{policy_named}
 use Rattle.rackfile.specs.Records.{Seen, printable, length_allowed}
-use Rattle.rackfile.specs.Files.{File, cut, is_mark, is_version, processors_allowed, count_in, judging, reading}
+use Rattle.rackfile.specs.Files.{File, cut, right_mark, right_version, processors_allowed, count_in, judging, reading}
 use Rattle.rackfile.specs.Format.{header_bytes, records_bytes, file_bytes, all_allowed, all_placed, Stands}
 use Rattle.rackfile.specs.Exact.{AreBytes}
 
@@ -23,7 +23,8 @@ FaultsStay = (input more : List ℕ) (f : FileFault) → reading input ≡ Err f
 abbrev pub text_length : ℕ → ℕ
 text_length n = cond (length_allowed n) n 0
 
--- A label with a fault at a place: an admission begins at `start` with its tag A, the label's length stands 13 bytes on, and its text behind that.
+-- A label with a fault at a place: at `start` stands 65, the tag A of an admission, the label's length 13 bytes on, and its text behind that.
+-- That whole records stand before `start` is asked in what the fault tells (BeginsRecord).
 pub record EndsLabel (input : List ℕ) (place end : ℕ) : Type 0 where
   pub start : ℕ
   pub admission : slice_index input start ≡ 65
@@ -42,7 +43,7 @@ EndsField input (fault.Record (Label place)) end = EndsLabel input place end
 EndsField input (fault.Record (Bytes e)) end = ⊥
 
 -- A fault of 13 to 16 is there as soon as the field that shows it is whole: an input that is cut behind the field has the same fault, and
--- one that is cut before the field's end is 12 there.
+-- one that is cut before the field's end has 12 at its own length.
 pub record ShownFrom (input : List ℕ) (f : FileFault) (end : ℕ) : Type 0 where
   pub field : EndsField input f end
   pub within : end ≤ length input
@@ -52,26 +53,21 @@ pub record ShownFrom (input : List ℕ) (f : FileFault) (end : ℕ) : Type 0 whe
 abbrev pub FaultsShow : Type 0
 FaultsShow = (input : List ℕ) (f : FileFault) → reading input ≡ Err f → IsShown f → (end : ℕ) × ShownFrom input f end
 
--- A record begins at a place: before it stand a header and whole records, fewer than the header counts.
+-- A record begins at a place: before it stand a header and whole records, all of them allowed, and fewer than the header counts.
 pub record BeginsRecord (input : List ℕ) (place : ℕ) : Type 0 where
   pub policy : Policy
   pub processors : ℕ
   pub records : List Seen
   pub before : take place input ≡ header_bytes policy processors (count_in input) ++ records_bytes records
+  pub right_processors : processors_allowed processors ≡ true
+  pub allowed : all_allowed records ≡ true
   pub fewer : length records < count_in input
 
--- what is wrong with a label whose length stands at `at`: that length, or the first byte of its text that is not printable
+-- what is wrong with a label whose length stands at `at`: that length, or, where it is allowed, the first byte of its text that is not printable
 abbrev pub IsWrongLabel : List ℕ → ℕ → ℕ → Type 0
 IsWrongLabel input at place =
     ((place ≡ at) × (length_allowed (slice_index input at) ≡ false))
-    ⊎ ((at < place) × (place ≤ at + slice_index input at) × (printable (slice_index input place) ≡ false) × ((k : ℕ) → at < k → k < place → printable (slice_index input k) ≡ true))
-
--- the input's mark and version are as they must be
-abbrev pub right_mark : List ℕ → Bool
-right_mark input = is_mark (slice_index input 0) (slice_index input 1) (slice_index input 2)
-
-abbrev pub right_version : List ℕ → Bool
-right_version input = is_version (slice_index input 3) (slice_index input 4)
+    ⊎ ((length_allowed (slice_index input at) ≡ true) × (at < place) × (place ≤ at + slice_index input at) × (printable (slice_index input place) ≡ false) × ((k : ℕ) → at < k → k < place → printable (slice_index input k) ≡ true))
 
 -- What a fault of 13 to 16 says of the input: all before its place is as it must be, and what stands there is not.
 abbrev pub Tells : List ℕ → FileFault → Type 0

@@ -21,6 +21,13 @@ is_mark a b c = a == 82 && (b == 65 && c == 75)
 abbrev pub is_version : ℕ → ℕ → Bool
 is_version high low = high * 256 + low == 1
 
+-- the input's mark and version are as they must be
+abbrev pub right_mark : List ℕ → Bool
+right_mark s = is_mark (slice_index s 0) (slice_index s 1) (slice_index s 2)
+
+abbrev pub right_version : List ℕ → Bool
+right_version s = is_version (slice_index s 3) (slice_index s 4)
+
 -- a rack has 1 to 16 processors
 abbrev pub processors_allowed : ℕ → Bool
 processors_allowed n = nat_le 1 n && nat_le n 16
@@ -33,9 +40,9 @@ cut whole = fault.Record (Bytes (Cut whole))
 abbrev pub header_fault : ℕ → List ℕ → Option FileFault
 header_fault whole s =
     cond (nat_lt (length s) 3) (Some (cut whole))
-    (cond (not (is_mark (slice_index s 0) (slice_index s 1) (slice_index s 2))) (Some fault.Mark)
+    (cond (not (right_mark s)) (Some fault.Mark)
     (cond (nat_lt (length s) 5) (Some (cut whole))
-    (cond (not (is_version (slice_index s 3) (slice_index s 4))) (Some fault.Version)
+    (cond (not (right_version s)) (Some fault.Version)
     (cond (nat_lt (length s) 6) (Some (cut whole))
     (cond (not (is_some (policy_named (slice_index s 5)))) (Some fault.Policy)
     (cond (nat_lt (length s) 7) (Some (cut whole))
