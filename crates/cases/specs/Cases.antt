@@ -125,7 +125,7 @@ places = placed two_lists newcomer first_fit 0 ∷ placed two_lists newcomer bes
 abbrev pub written_sheet : List ℕ
 written_sheet = 4 ∷ 4 ∷ replicate 14 0
 
--- of the same lists, 8/10 is refused with 8, and the sheet says why; the second task leaves with its work and period
+-- on the two lists: 8/10 is refused with 8, with the sheet that says why; the second task leaves, and its work and period are given back
 abbrev pub answers : List Case
 answers =
     answered First two_lists (admits (task_of 4 8 10) blank_sheet (Err NoTaker) written_sheet)
