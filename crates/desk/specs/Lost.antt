@@ -4,7 +4,7 @@ use Rattle.playing.specs.Streams.{halt_text}
 use Rattle.desk.specs.declared.lost.Lost.{Lost}
 use Rattle.desk.specs.declared.lost.Lost.TheVariants.{Call, Answer, Play}
 
--- The call is lost: it is not made, and all is as before. Its answer is lost: the call is made, and all is as it would be with an answer that fits. The player's text is lost: all is as before.
+-- The call is lost: it is not made, and all is as before. Its answer is lost: the call, if there was one, is made, and all is as it would be with an answer that fits. The player's text is lost: all is as before.
 abbrev pub Leaves : {S : Type 0} → (List ℕ → S → Type 0) → S → S → Lost → Type 0
 Leaves fits before after (Call e) = after ≡ before
 Leaves fits before after (Answer e) = (text : List ℕ) × fits text after
@@ -25,5 +25,5 @@ Written bytes text (Err (Play halt)) = ⊥
 -- what is said of what is lost; of the player's text what the player says
 abbrev pub lost_text : Lost → Option (List ℕ)
 lost_text (Call e) = Some (codes "out of memory: the call is not made")
-lost_text (Answer e) = Some (codes "out of memory: the call is made, and its answer lost")
+lost_text (Answer e) = Some (codes "out of memory: the answer is lost, and a call, if it was one, is made")
 lost_text (Play halt) = halt_text halt

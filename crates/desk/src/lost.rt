@@ -13,7 +13,7 @@ use std::fmt::{self, Display};
 pub enum Lost {
     /// The call: it is not made, and the desk is as it was.
     Call(AllocError),
-    /// The answer: the call is made, and the desk is as it leaves it.
+    /// The answer: a call, if the line was one, is made, and the desk is as it leaves it.
     Answer(AllocError),
     /// The player's text: the player has halted before it was whole, and the desk is as it was.
     Play(Halt),
@@ -42,7 +42,10 @@ impl fmt::Display for Lost {
     fn fmt<W: fmt::Write>(&self, f: &mut fmt::Formatter<W>) -> fmt::Result {
         match self {
             Lost::Call(_) => write!(f, "out of memory: the call is not made"),
-            Lost::Answer(_) => write!(f, "out of memory: the call is made, and its answer lost"),
+            Lost::Answer(_) => write!(
+                f,
+                "out of memory: the answer is lost, and a call, if it was one, is made"
+            ),
             Lost::Play(halt) => halt.fmt(f),
         }
     }
