@@ -25,5 +25,5 @@ Written bytes text (Err (Play halt)) = ⊥
 -- what is said of what is lost; of the player's text what the player says
 abbrev pub lost_text : Lost → Option (List ℕ)
 lost_text (Call e) = Some (codes "out of memory: the call is not made")
-lost_text (Answer e) = Some (codes "out of memory: the answer is lost, and a call, if it was one, is made")
+lost_text (Answer e) = Some (codes "out of memory: only the answer is lost")
 lost_text (Play halt) = halt_text halt

@@ -42,10 +42,7 @@ impl fmt::Display for Lost {
     fn fmt<W: fmt::Write>(&self, f: &mut fmt::Formatter<W>) -> fmt::Result {
         match self {
             Lost::Call(_) => write!(f, "out of memory: the call is not made"),
-            Lost::Answer(_) => write!(
-                f,
-                "out of memory: the answer is lost, and a call, if it was one, is made"
-            ),
+            Lost::Answer(_) => write!(f, "out of memory: only the answer is lost"),
             Lost::Play(halt) => halt.fmt(f),
         }
     }
