@@ -5,17 +5,17 @@ use Rattle.std.proofs.lemmas.Bool.{ltb-true, ltb-false, ne_eqb, cond-false, not-
 use Rattle.preferences.specs.declared.policy.Policy.{Policy}
 use Rattle.preferences.specs.Policies.{policy_named}
 use Rattle.rackfile.specs.declared.fault.BytesFault.TheVariants.{TooLong, Cut, Trailing}
-use Rattle.rackfile.specs.declared.fault.RecordFault.{RecordFault}
 use Rattle.rackfile.specs.declared.fault.RecordFault.TheVariants.{Bytes, Tag, Label}
 use Rattle.rackfile.specs.declared.fault.FileFault.{FileFault}
 use Rattle.rackfile.specs.declared.fault.FileFault.TheVariants.{Record, Mark, Version, Policy as PolicyFault, Processors}
 use Rattle.rackfile.specs.Reading.{place_in}
-use Rattle.rackfile.specs.Records.{Seen}
 use Rattle.rackfile.specs.Files.{File, cut, is_mark, is_version, processors_allowed, header_fault, count_in, read_records, with_records, with_header, judging}
 use Rattle.rackfile.specs.Exact.{AreBytes}
 use Rattle.rackfile.proofs.Undoing.{cond-none}
-use Rattle.rackfile.specs.FaultLaws.{text_length, EndsLabel}
+use Rattle.rackfile.specs.FaultLaws.{text_length, BeginsRecord, EndsLabel}
+use Rattle.rackfile.proofs.Sequences.{Run}
 use Rattle.rackfile.proofs.Placing.{label_end, Placed, records_placed, failing, failing_admits}
+use Rattle.rackfile.proofs.Stopping.{record_begins}
 use Rattle.rackfile.proofs.Growing.{Later, Grows, same_place, records_grow}
 
 -- so long is an input that shows the fault by a field; `end` is where the label ends, if the fault is one of a label
@@ -163,9 +163,6 @@ stays Mark end l h = (refl, h)
 stays Version end l h = (refl, h)
 stays PolicyFault end l h = (refl, h)
 stays Processors end l h = (refl, h)
-
-abbrev Run : Type 0
-Run = Result (List Seen × List ℕ) RecordFault
 
 -- the end of a file whose records are read
 abbrev ended : ℕ → File → List ℕ → Judged
@@ -315,8 +312,18 @@ label_ends input p e = go (header_fault (length input) input) refl e
         end true h = absurd cc
         end false h = absurd cc
 
-    found : (u front : List ℕ) → input ≡ front ++ u → get_or u 0 0 ≡ 65 → length input ≤ p + length (drop 13 u) → p < label_end (length input) (drop 13 u) → label_end (length input) (drop 13 u) ≤ length input → EndsLabel input p (label_end (length input) (drop 13 u))
-    found u front whole admits before in_label in_input =
+    -- where the input is bytes, a record begins behind what stands before the one that can't be read
+    behind_records : (o : Option Policy) → policy_named (get_or input 5 0) ≡ o → is_some o ≡ true → header_fault (length input) input ≡ None → read_records (length input) (count_in input) (drop 9 input) ≡ Err (Label p)
+        → (front : List ℕ) → input ≡ front ++ failing (length input) (count_in input) (drop 9 input) → AreBytes input → BeginsRecord input (length front)
+    behind_records None named some right h front whole b = absurd cc
+    behind_records (Some y) named some right h front whole b =
+        let begun = record_begins input y (Label p) b right named h in
+        let u = failing (length input) (count_in input) (drop 9 input) in
+        let same : length begun.front ≡ length front = omega (arith, ap length begun.bytes, length-append begun.front begun.rest, ap length begun.its_rest, ap length whole, length-append front u) in
+        subst (BeginsRecord input) same begun.begins
+
+    found : (u front : List ℕ) → input ≡ front ++ u → (AreBytes input → BeginsRecord input (length front)) → get_or u 0 0 ≡ 65 → length input ≤ p + length (drop 13 u) → p < label_end (length input) (drop 13 u) → label_end (length input) (drop 13 u) ≤ length input → EndsLabel input p (label_end (length input) (drop 13 u))
+    found u front whole begins admits before in_label in_input =
         let l = length input in
         let long : l ≡ length front + length u = ap length whole ∙ length-append front u in
         let less : 13 ≤ length u = omega (arith, length-drop 13 u) in
@@ -325,14 +332,15 @@ label_ends input p e = go (header_fault (length input) input) refl e
         let place : place_in l (drop 13 u) + 1 ≡ length front + 14 = omega (arith, length-drop 13 u) in
         record {
           start = length front;
+          begins = begins;
           admission = at 0 (length front) (omega arith) ∙ admits;
           label = omega (arith, length-drop 13 u);
           fault = in_label;
           text = ap (λ k. k + text_length (get_or (drop 13 u) 0 0)) place ∙ ap (λ k. length front + 14 + text_length k) size;
         }
 
-    records : read_records (length input) (count_in input) (drop 9 input) ≡ Err (Label p) → 9 ≤ length input → EndsLabel input p (file_end input)
-    records h long =
+    records : read_records (length input) (count_in input) (drop 9 input) ≡ Err (Label p) → header_fault (length input) input ≡ None → EndsLabel input p (file_end input)
+    records h right =
         let l = length input in
         let n = count_in input in
         let s = drop 9 input in
@@ -341,7 +349,8 @@ label_ends input p e = go (header_fault (length input) input) refl e
         let f = failing_admits l n p s fits h in
         let placed = subst (Placed (30 * n) l (drop 13 u) s) h (records_placed l n s fits) in
         let whole = sym (take-append-drop 9 input) ∙ ap (λ x. take 9 input ++ x) f.its_end.1 ∙ sym (append_assoc (take 9 input) f.its_end.0 u) in
-        found u (take 9 input ++ f.its_end.0) whole f.admission placed.1 placed.2 placed.3
+        let begins = behind_records (policy_named (get_or input 5 0)) refl (header_named l input right) right h (take 9 input ++ f.its_end.0) whole in
+        found u (take 9 input ++ f.its_end.0) whole begins f.admission placed.1 placed.2 placed.3
 
     never : (f : FileFault) → f ≡ Record (Label p) → (o : Option FileFault) → HeadGrows 0 (length input) (Some f) o → ⊥
     never f same o (inl (is, short, later)) = absurd cc
@@ -349,4 +358,4 @@ label_ends input p e = go (header_fault (length input) input) refl e
 
     go : (o : Option FileFault) → header_fault (length input) input ≡ o → with_header input o ≡ Err (Record (Label p)) → EndsLabel input p (file_end input)
     go (Some f) h k = absurd (never f (let same : f ≡ Record (Label p) = cc in same) _ (subst (λ o. HeadGrows 0 (length input) o (header_fault (length (input ++ [])) (input ++ []))) h (header_grows 0 input [])))
-    go None h k = records (fault (policy_named (get_or input 5 0)) (read_records (length input) (count_in input) (drop 9 input)) k) (header_long input h)
+    go None h k = records (fault (policy_named (get_or input 5 0)) (read_records (length input) (count_in input) (drop 9 input)) k) h

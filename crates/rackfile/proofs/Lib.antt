@@ -6,6 +6,7 @@ pub mod Standing
 pub mod Labels
 pub mod Placing
 pub mod Growing
+pub mod Stopping
 pub mod Judging
 pub mod FaultLaws
 pub mod Written

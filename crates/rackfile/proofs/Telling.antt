@@ -1,8 +1,8 @@
 -- What a fault of 13 to 16 says of the input.
 use Rattle.std.proofs.Common.{◌≡◌, ◌≢◌, ◌⊎◌, ℕ, zero, suc, ◌+◌, ◌-◌, ◌<◌, ◌≤◌, Bool, true, false, not, cond, eqb, ltb, leb, List, [], ◌∷◌, ◌++◌, length, get_or, take, drop, is_some, Some, None, Ok, Err, Option, Result, sym, refl, ap, ◌∙◌, subst, inl, inr, arith}
-use Rattle.std.proofs.lemmas.List.{append_assoc, length-append, length-drop, length-take-le, take-append-drop, take_at, get_or-append-add, get_or-take}
+use Rattle.std.proofs.lemmas.List.{append_assoc, length-append, length-drop, length-take-le, take-append-drop, get_or-append-add, get_or-take}
 use Rattle.std.proofs.lemmas.List.Quantifiers.{position-Some}
-use Rattle.std.proofs.lemmas.Bool.{and_from, not-true, not-false, leb-true, eqb-true, eqb-false}
+use Rattle.std.proofs.lemmas.Bool.{not-true, not-false, leb-true, eqb-true, eqb-false}
 use Rattle.preferences.specs.declared.policy.Policy.{Policy}
 use Rattle.preferences.specs.Policies.{policy_named}
 use Rattle.rackfile.specs.declared.fault.BytesFault.{BytesFault}
@@ -15,12 +15,11 @@ use Rattle.rackfile.specs.Faults.{number_of}
 use Rattle.rackfile.specs.Reading.{place_in, field, take_word}
 use Rattle.rackfile.specs.Records.{Seen, admits, withdraws, printable, first_bad, length_allowed, then, next, judged, read_text, read_label, read_admission, read_withdrawal, read_record}
 use Rattle.rackfile.specs.Files.{cut, right_mark, right_version, processors_allowed, header_fault, count_in, read_records, with_records, with_header}
-use Rattle.rackfile.specs.Format.{header_bytes, record_bytes, records_bytes, record_allowed, all_allowed}
 use Rattle.rackfile.specs.Exact.{AreBytes}
 use Rattle.rackfile.specs.FaultLaws.{IsShown, BeginsRecord, IsWrongLabel, Tells, FaultsTell}
-use Rattle.rackfile.proofs.RecordBytes.{record_back}
-use Rattle.rackfile.proofs.Headers.{header_back}
 use Rattle.rackfile.proofs.Placing.{word_rest, four_more, behind_work, behind_number}
+use Rattle.rackfile.proofs.Sequences.{Run}
+use Rattle.rackfile.proofs.Stopping.{record_begins}
 use Rattle.rackfile.proofs.Judging.{Judged, header_named}
 use Rattle.rackfile.proofs.FaultLaws.{judged_so}
 
@@ -52,44 +51,6 @@ header_tells s g e =
     head_step l 5 (not (right_version s)) Version g _ s e1 (λ h. (mark, not-true (right_version s) h)) (λ b2 e2. let version = not-false (right_version s) b2 in
     head_step l 6 (not (is_some (policy_named (get_or s 5 0)))) PolicyFault g _ s e2 (λ h. (mark, version, none_named (policy_named (get_or s 5 0)) h)) (λ b3 e3. let named = not-false (is_some (policy_named (get_or s 5 0))) b3 in
     head_step l 7 (not (processors_allowed (get_or s 6 0))) Processors g _ s e3 (λ h. (mark, version, named, not-true (processors_allowed (get_or s 6 0)) h)) (λ b4 e4. last_step l g s e4))))
-
--- The records: where one can't be read, whole ones stand before it.
-
-abbrev Run : Type 0
-Run = Result (List Seen × List ℕ) RecordFault
-
-pub record Stopped (whole n : ℕ) (s : List ℕ) (f : RecordFault) : Type 0 where
-  pub records : List Seen
-  pub rest : List ℕ
-  pub bytes : s ≡ records_bytes records ++ rest
-  pub allowed : all_allowed records ≡ true
-  pub fewer : length records < n
-  pub fails : read_record whole rest ≡ Err f
-
-stopped : (whole n : ℕ) (s : List ℕ) (f : RecordFault) → AreBytes s → length s ≤ whole → read_records whole n s ≡ Err f → Stopped whole n s f
-stopped whole zero s f b w e = absurd cc
-stopped whole (suc n) s f b w e = go (λ t. stopped whole n t f) (read_record whole s) refl e
-  where
-    inner : (x : Seen × List ℕ) (r : Run) → ◌≡◌ {A = Run} (next r (λ y. Ok (x.0 ∷ y.0, y.1))) (Err f) → r ≡ Err f
-    inner x (Ok y) k = absurd cc
-    inner x (Err g) k = cc
-
-    one_more : (v : Seen) (t : List ℕ) → s ≡ record_bytes v ++ t → record_allowed v ≡ true → Stopped whole n t f → Stopped whole (suc n) s f
-    one_more v t is allowed more = record {
-      records = v ∷ more.records;
-      rest = more.rest;
-      bytes = is ∙ ap (λ y. record_bytes v ++ y) more.bytes ∙ sym (append_assoc (record_bytes v) (records_bytes more.records) more.rest);
-      allowed = and_from (record_allowed v) (all_allowed more.records) allowed more.allowed;
-      fewer = omega (arith, more.fewer);
-      fails = more.fails;
-    }
-
-    go : ((t : List ℕ) → AreBytes t → length t ≤ whole → read_records whole n t ≡ Err f → Stopped whole n t f) → (r : Result (Seen × List ℕ) RecordFault) → read_record whole s ≡ r
-        → ◌≡◌ {A = Run} (next r (λ x. next (read_records whole n x.1) (λ y. Ok (x.0 ∷ y.0, y.1)))) (Err f) → Stopped whole (suc n) s f
-    go ih (Err g) h k = let same : g ≡ f = cc in record { records = []; rest = s; bytes = refl; allowed = refl; fewer = omega arith; fails = h ∙ ap (λ z. Err z) same }
-    go ih (Ok x) h k =
-        let back = record_back whole (whole - length s) s x.0 x.1 (omega arith) b h in
-        one_more x.0 x.1 back.bytes back.allowed (ih x.1 back.rest (omega (arith, ap length back.bytes, length-append (record_bytes x.0) x.1)) (inner x (read_records whole n x.1) k))
 
 -- What is wrong with a record that can't be read.
 
@@ -240,24 +201,8 @@ module _ (input front rest : List ℕ) (bytes : input ≡ front ++ rest) (begins
 
 record_tells : (input : List ℕ) (p : Policy) (e : RecordFault) → AreBytes input → header_fault (length input) input ≡ None → policy_named (get_or input 5 0) ≡ Some p → read_records (length input) (count_in input) (drop 9 input) ≡ Err e → IsShown (Record e) → Tells input (Record e)
 record_tells input p e b right named h shown =
-    let l = length input in
-    let n = count_in input in
-    let back = header_back l input p b right named in
-    let fits : length (drop 9 input) ≤ l = omega (arith, length-drop 9 input) in
-    let stop = stopped l n (drop 9 input) e back.rest fits h in
-    let top = header_bytes p (get_or input 6 0) n in
-    let front = top ++ records_bytes stop.records in
-    let whole : input ≡ front ++ stop.rest = back.bytes ∙ ap (λ x. top ++ x) stop.bytes ∙ sym (append_assoc top (records_bytes stop.records) stop.rest) in
-    let begins : BeginsRecord input (length front) = record {
-      policy = p;
-      processors = get_or input 6 0;
-      records = stop.records;
-      before = ap (take (length front)) whole ∙ take_at front stop.rest (length front) refl;
-      right_processors = back.processors;
-      allowed = stop.allowed;
-      fewer = stop.fewer;
-    } in
-    go e front stop.rest whole begins (record_fails l stop.rest e (omega (arith, ap length whole, length-append front stop.rest)) stop.fails) shown
+    let it = record_begins input p e b right named h in
+    go e it.front it.rest it.bytes it.begins (record_fails (length input) it.rest e (omega (arith, ap length it.bytes, length-append it.front it.rest)) it.fails) shown
   where
     go : (f : RecordFault) (front rest : List ℕ) → input ≡ front ++ rest → BeginsRecord input (length front) → RecordFails (length input) rest f → IsShown (Record f) → Tells input (Record f)
     go (Bytes TooLong) front rest is begins h s = absurd (omega (arith, s.0))

@@ -19,14 +19,25 @@ IsShown f = (13 ≤ number_of f) × (number_of f ≤ 16)
 abbrev pub FaultsStay : Type 0
 FaultsStay = (input more : List ℕ) (f : FileFault) → reading input ≡ Err f → 13 ≤ number_of f → number_of f ≤ 17 → length (input ++ more) ≤ 65536 → reading (input ++ more) ≡ Err f
 
+-- A record begins at a place: before it stand a header and whole records, all of them allowed, and fewer than the header counts.
+pub record BeginsRecord (input : List ℕ) (place : ℕ) : Type 0 where
+  pub policy : Policy
+  pub processors : ℕ
+  pub records : List Seen
+  pub before : take place input ≡ header_bytes policy processors (count_in input) ++ records_bytes records
+  pub right_processors : processors_allowed processors ≡ true
+  pub allowed : all_allowed records ≡ true
+  pub fewer : length records < count_in input
+
 -- so many bytes of text belong to a label whose length says n: a length that is not allowed is shown at once
 abbrev pub text_length : ℕ → ℕ
 text_length n = cond (length_allowed n) n 0
 
--- A label with a fault at a place: at `start` stands 65, the tag A of an admission, the label's length 13 bytes on, and its text behind that.
--- That whole records stand before `start` is asked in what the fault tells (BeginsRecord).
+-- A label with a fault at a place: an admission begins at `start` with its tag A, behind whole records where the input is bytes; the label's length stands
+-- 13 bytes on, and its text behind that.
 pub record EndsLabel (input : List ℕ) (place end : ℕ) : Type 0 where
   pub start : ℕ
+  pub begins : AreBytes input → BeginsRecord input start
   pub admission : slice_index input start ≡ 65
   pub label : start + 13 ≤ place
   pub fault : place < end
@@ -52,16 +63,6 @@ pub record ShownFrom (input : List ℕ) (f : FileFault) (end : ℕ) : Type 0 whe
 
 abbrev pub FaultsShow : Type 0
 FaultsShow = (input : List ℕ) (f : FileFault) → reading input ≡ Err f → IsShown f → (end : ℕ) × ShownFrom input f end
-
--- A record begins at a place: before it stand a header and whole records, all of them allowed, and fewer than the header counts.
-pub record BeginsRecord (input : List ℕ) (place : ℕ) : Type 0 where
-  pub policy : Policy
-  pub processors : ℕ
-  pub records : List Seen
-  pub before : take place input ≡ header_bytes policy processors (count_in input) ++ records_bytes records
-  pub right_processors : processors_allowed processors ≡ true
-  pub allowed : all_allowed records ≡ true
-  pub fewer : length records < count_in input
 
 -- what is wrong with a label whose length stands at `at`: that length, or, where it is allowed, the first byte of its text that is not printable
 abbrev pub IsWrongLabel : List ℕ → ℕ → ℕ → Type 0
