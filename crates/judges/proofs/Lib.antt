@@ -1,3 +1,4 @@
 pub mod Multiples
 pub mod Weights
 pub mod Chosen
+pub mod Steps

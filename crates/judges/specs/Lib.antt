@@ -4,3 +4,4 @@ pub mod Weighing
 pub mod Meant
 pub mod Choosing
 pub mod Kinds
+pub mod Steps

@@ -1,6 +1,6 @@
 // Either judge, for a rack whose judge is known only while the program runs.
 ghost use Rattle.std.specs.Prelude.{◌≡◌};
-ghost use Rattle.judges.specs.Kinds.{meaning_of, laws_of};
+ghost use Rattle.judges.specs.Kinds.{meaning_of, laws_of, KindsDiffer};
 
 use crate::judge::Judge;
 use crate::points::Points;
@@ -26,3 +26,9 @@ impl Judge for AnyJudge {
         }
     }
 }
+
+/// There is a task of which they give different instants.
+#[tactic(auto, unfolding(tasks::specs::Rounding::up, tasks::specs::Instants::least))]
+pub fn kinds_differ()
+    ensures { KindsDiffer }
+{}

@@ -48,7 +48,7 @@ fn is_past(t: Ticks, task: Task) -> bool
 }
 
 impl Question<'_> {
-    // The points judge's answer. Both loops in one function, the outer one left by its label: a rule of the project.
+    // The points judge's answer. The points are the outer loop and the periods the inner one: period by period the good point found first need not be the least.
     fn first_good_point(&self) -> Option<Ticks>
         ensures { result ≡ least_good_point self.now.task self.now.above.now }
     {

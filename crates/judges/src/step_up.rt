@@ -2,6 +2,7 @@
 ghost use Rattle.std.specs.Prelude.{◌≡◌, nat_le};
 ghost use Rattle.judges.specs.Meanings.{least_good_instant, StepsAreLeast};
 ghost use Rattle.judges.specs.Meant.{steps_lawful};
+ghost use Rattle.judges.specs.Steps.{StepsStandStill, StepsPassPeriod};
 
 use crate::judge::Judge;
 use crate::question::{Question, Weighed};
@@ -24,6 +25,16 @@ impl Judge for StepUp {
 /// What the step-up judge gives is the least good instant.
 pub fn steps_are_least()
     ensures { StepsAreLeast }
+{}
+
+/// It is the instant at which the steps from the sum of all the works up stand still.
+pub fn steps_stand_still()
+    ensures { StepsStandStill }
+{}
+
+/// It gives none where those steps pass the period.
+pub fn steps_pass_period()
+    ensures { StepsPassPeriod }
 {}
 
 // Whether an instant lies within the task's period: the bound of this judge, as `is_past` is that of the points judge.

@@ -11,7 +11,8 @@ use Rattle.tasks.specs.Limits.{all_within}
 use Rattle.tasks.proofs.Bounds.{all_limits}
 use Rattle.machine.specs.declared.state.Release.{Release}
 use Rattle.machine.specs.Lawful.{inside, may_follow, all_may_follow, lawful}
-use Rattle.machine.specs.Separation.{no_ticks, may_come, lawful_after}
+use Rattle.tasks.specs.Units.{no_ticks}
+use Rattle.machine.specs.Separation.{may_come, lawful_after}
 use Rattle.machine.specs.Cursor.{Orderly, no_release}
 use Rattle.machine.specs.Moments.{deadline_fits, deadlines_fit}
 

@@ -1,11 +1,12 @@
 -- How far a release list has come at an instant.
 use Rattle.std.specs.Prelude.{ℕ, ◌<◌, ◌≤◌, List, length, slice_index_or}
 use Rattle.tasks.specs.declared.task.Task.{Task}
+use Rattle.tasks.specs.Units.{no_ticks}
 use Rattle.machine.specs.declared.state.Release.{Release}
 
 -- what is read past the end of a list
 abbrev pub no_release : Release
-no_release = record { place = 0; instant = record { 0 = 0 } }
+no_release = record { place = 0; instant = no_ticks }
 
 -- each release before the cursor was before now, and no other one was
 pub record Cursor (rs : List Release) (cursor instant : ℕ) : Type 0 where

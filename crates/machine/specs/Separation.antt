@@ -2,13 +2,10 @@
 use Rattle.std.specs.Prelude.{ℕ, ◌+◌, Bool, true, ◌&&◌, List, [], ◌∷◌, get_or, nat_le, slice_set}
 use Rattle.tasks.specs.declared.task.Task.{Task}
 use Rattle.tasks.specs.declared.units.Ticks.{Ticks}
+use Rattle.tasks.specs.Units.{no_ticks}
 use Rattle.tasks.specs.Demand.{no_task}
 use Rattle.machine.specs.declared.state.Release.{Release}
 use Rattle.machine.specs.Lawful.{inside}
-
--- before any release a place may be released from instant 0 on
-abbrev pub no_ticks : Ticks
-no_ticks = record { 0 = 0 }
 
 -- a release may come now: not before the last, and not before its own place is free again
 abbrev pub may_come : ℕ → ℕ → Release → Bool

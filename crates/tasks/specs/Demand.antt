@@ -4,7 +4,7 @@ use Rattle.std.specs.List.{list_all}
 use Rattle.tasks.specs.declared.task.Task.{Task}
 use Rattle.tasks.specs.declared.units.Units.{Units}
 use Rattle.tasks.specs.Rounding.{up}
-use Rattle.tasks.specs.Units.{units_in, one_a_tick}
+use Rattle.tasks.specs.Units.{units_in, one_a_tick, no_ticks}
 
 -- the work that the tasks of a list ask for up to t: of each its C × (t / its T, rounded up), so a release at t itself does not count
 abbrev pub work_before : List Task → ℕ → ℕ
@@ -21,7 +21,7 @@ good x above t = nat_le 1 t && (nat_le t x.period.0 && nat_le (demand x above t)
 
 -- what is read past the end of a list
 abbrev pub no_task : Task
-no_task = record { number = 0; work = record { 0 = 0 }; period = record { 0 = 0 } }
+no_task = record { number = 0; work = record { 0 = 0 }; period = no_ticks }
 
 -- the task at place k has a good instant with those before it above it
 abbrev pub FitsAt : List Task → ℕ → Type 0

@@ -16,6 +16,10 @@ ticks_for speed w = up w speed.0
 abbrev pub one_a_tick : Speed
 one_a_tick = record { 0 = 1 }
 
+-- no ticks: the instant at which a run begins, and what is read past the end of a list of instants
+abbrev pub no_ticks : Ticks
+no_ticks = record { 0 = 0 }
+
 -- a count of ticks up to 32 bits
 abbrev pub in_32_bits : ℕ → Option Ticks
 in_32_bits t = cond (nat_lt t (2 ^ 32)) (Some (record { 0 = t })) None
