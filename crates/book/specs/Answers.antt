@@ -1,4 +1,4 @@
--- For each book, call and sheet there is exactly one answer, and one sheet afterwards, that is right.
+-- For each book as it stands at a moment of a rack, each call and each sheet there is exactly one answer, and one sheet afterwards, that is right.
 use Rattle.std.specs.Prelude.{◌≡◌, ℕ, List, Option, Result}
 use Rattle.tasks.specs.declared.task.Task.{Task}
 use Rattle.tasks.specs.declared.units.Ticks.{Ticks}

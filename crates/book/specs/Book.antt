@@ -1,11 +1,12 @@
 -- The book of a rack, and the claim. The book is written from the calls on a rack and its answers alone; no rack and no table is named here.
 -- Read from top to bottom. The rules of each call on lists of seats stand in the crate seating (Admission, Withdrawal, Questions, and their words in Seats and Refusals),
 -- what fits in tasks (Demand), the step machine in machine (Promises, Lawful, Machine), judges and preferences in their crates (Laws).
-use Rattle.std.specs.Prelude.{◌≡◌, ℕ, ◌<◌, ◌≤◌, true, if◌then◌else◌, ◌↔◌, List, [], ◌∷◌, ◌++◌, length, take, drop, replicate, is_err, Some, None, Ok, Err, Option, Result, ◌==◌, get_or, slice_set}
+use Rattle.std.specs.Prelude.{◌≡◌, ℕ, ◌<◌, ◌≤◌, true, if◌then◌else◌, ◌↔◌, List, [], ◌∷◌, ◌++◌, length, take, drop, replicate, is_err, Some, None, Ok, Err, Option, Result, ◌==◌, slice_set}
 use Rattle.std.specs.List.Sorted.{IsPermutation}
 use Rattle.tasks.specs.declared.units.Units.{Units}
 use Rattle.tasks.specs.declared.units.Ticks.{Ticks}
 use Rattle.tasks.specs.declared.task.Task.{Task}
+use Rattle.tasks.specs.Units.{no_ticks}
 use Rattle.tasks.specs.Limits.{all_within}
 use Rattle.tasks.specs.Priority.{by_priority, joined}
 use Rattle.tasks.specs.Demand.{Fits}
@@ -16,8 +17,8 @@ use Rattle.seating.specs.declared.seat.Seat.{Seat}
 use Rattle.seating.specs.declared.refusal.AdmitRefusal.{AdmitRefusal}
 use Rattle.seating.specs.declared.refusal.WithdrawRefusal.{WithdrawRefusal}
 use Rattle.seating.specs.declared.refusal.QuestionRefusal.{QuestionRefusal}
-use Rattle.seating.specs.Seats.{Lists, tasks_of, place_of, all_keep_good, numbers, all_differ}
-use Rattle.seating.specs.Admission.{earlier, Preferred, Admits}
+use Rattle.seating.specs.Seats.{Lists, tasks_of, place_of, all_keep_good, all_numbered, numbers, all_differ}
+use Rattle.seating.specs.Admission.{earlier, on, Preferred, Admits}
 use Rattle.seating.specs.Withdrawal.{Withdraws}
 use Rattle.seating.specs.Questions.{Finds, Loads, Shows}
 
@@ -33,7 +34,7 @@ new_book processors = replicate processors []
 
 -- The list of processor p, and its tasks.
 abbrev pub seats_on : Book → ℕ → List Seat
-seats_on b p = get_or b p []
+seats_on b p = on b p
 
 abbrev pub tasks_on : Book → ℕ → List Task
 tasks_on b p = tasks_of (seats_on b p)
@@ -56,7 +57,7 @@ pub data Event : Type 0 where
 -- The instant given (a book that is kept well, below, has no seat to which none was given).
 abbrev pub given : Option Ticks → Ticks
 given (Some t) = t
-given None = record { 0 = 0 }
+given None = no_ticks
 
 -- Tasks that are judged: each, below the tasks `above` and those before it in the list, by the judge's meaning.
 abbrev pub judged : Meaning → List Task → List Task → List Seat
@@ -117,9 +118,10 @@ Passes b x entries = earlier b x entries ≡ None
 abbrev pub MissesInEachOrder : List Task → Type 0
 MissesInEachOrder ts = (order : List Task) → IsPermutation ts order → CanMiss order
 
--- A list is kept well: at most 32 tasks within the limits, in priority order, each with a good instant beside it.
+-- A list is kept well: at most 32 tasks, each with a number from 1 and within the limits, in priority order, each with a good instant beside it.
 pub record KeptWell (ss : List Seat) : Type 0 where
   pub few : length ss ≤ 32
+  pub numbered : all_numbered (tasks_of ss) ≡ true
   pub limits : all_within (tasks_of ss) ≡ true
   pub order : by_priority (tasks_of ss) ≡ true
   pub instants : all_keep_good ss ≡ true

@@ -11,7 +11,8 @@ use Rattle.judges.specs.Laws.{Meaning, JudgeLaws}
 use Rattle.preferences.specs.Laws.{Relation}
 use Rattle.preferences.specs.declared.contender.Contender.{Contender}
 use Rattle.seating.specs.declared.seat.Seat.{Seat}
-use Rattle.seating.specs.Seats.{Lists, tasks_of, no_ticks, place_of}
+use Rattle.tasks.specs.Units.{no_ticks}
+use Rattle.seating.specs.Seats.{Lists, tasks_of, place_of}
 use Rattle.seating.specs.Admission.{on, as_seen, earlier, WouldTake, Entry, Joins, Granted, TurnedAway}
 use Rattle.seating.specs.Judging.{FirstNone, DecidesFit}
 use Rattle.seating.proofs.Exactly.{takes_exactly}

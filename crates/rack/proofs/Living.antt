@@ -1,12 +1,12 @@
 -- The claim over every run of a rack.
-use Rattle.std.proofs.Common.{◌≡◌, ℕ, ◌≤◌, List, [], ◌∷◌, replicate, sym, ap, subst}
+use Rattle.std.proofs.Common.{◌≡◌, ℕ, true, List, [], ◌∷◌, replicate, sym, ap, subst}
 use Rattle.judges.specs.Laws.{Meaning, JudgeLaws}
 use Rattle.preferences.specs.Laws.{Relation}
 use Rattle.seating.specs.Seats.{Lists}
 use Rattle.book.specs.Book.{Book, Event, admits, withdraws, finds, loads, lists, after, Rules, AtMoment, ClaimFrom, MainClaim}
 use Rattle.book.proofs.Moments.{at_moment}
 use Rattle.book.proofs.Following.{written, of_call}
-use Rattle.rack.specs.Table.{Table, Sound}
+use Rattle.rack.specs.Table.{Table, Sound, rack_size}
 use Rattle.rack.specs.Steps.{Step, Run}
 use Rattle.rack.proofs.Passing.{passing}
 use Rattle.rack.proofs.Soundness.{free_sound, admitted_sound, withdrawn_sound}
@@ -62,5 +62,5 @@ module _ {J P : Type 0} (meaning : J → Meaning) (before : P → Relation) wher
         carried (meaning s.judge) m (before s.preference) f s.lists (after m r.lists e) es u.judge u.preference (written m f r.lists s.lists sound.differ e u.rules) (claim_from laws es s u.sound run),
       )
 
-  pub whole_life : ((j : J) → JudgeLaws (meaning j)) → (m : ℕ) → 1 ≤ m → m ≤ 16 → (j : J) (p : P) (es : List Event) → Run meaning before (record { lists = replicate m []; judge = j; preference = p }) es → MainClaim (meaning j) (before p) m es
-  whole_life laws m some few j p es run = claim_from laws es _ (free_sound m some few) run
+  pub whole_life : ((j : J) → JudgeLaws (meaning j)) → (m : ℕ) → rack_size m ≡ true → (j : J) (p : P) (es : List Event) → Run meaning before (record { lists = replicate m []; judge = j; preference = p }) es → MainClaim (meaning j) (before p) m es
+  whole_life laws m size j p es run = claim_from laws es _ (free_sound m size) run

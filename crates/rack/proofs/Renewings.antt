@@ -8,7 +8,8 @@ use Rattle.tasks.specs.declared.task.Task.{Task}
 use Rattle.tasks.specs.declared.units.Ticks.{Ticks}
 use Rattle.seating.specs.declared.seat.Seat.{Seat}
 use Rattle.tasks.specs.Demand.{no_task}
-use Rattle.seating.specs.Seats.{tasks_of, no_ticks, no_seat, place_of}
+use Rattle.tasks.specs.Units.{no_ticks}
+use Rattle.seating.specs.Seats.{tasks_of, no_seat, place_of}
 use Rattle.seating.proofs.Placing.{length-tasks, joined_at_place}
 use Rattle.rack.specs.Renewed.{renewed}
 use Rattle.rack.specs.Trials.{SeatedWith}

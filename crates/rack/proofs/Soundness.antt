@@ -1,9 +1,9 @@
 -- A sound rack stays sound: whatever a call does, each processor is kept well and no number is seated twice.
-use Rattle.std.proofs.Common.{◌≡◌, ℕ, ◌+◌, ◌<◌, ◌≤◌, ◌≢◌, true, List, [], map, length, get_or, take, set, replicate, Some, Option, Ok, Err, Result, inl, inr, refl, sym, ap, ◌∙◌, subst, ⊎_elim, arith, length-set}
+use Rattle.std.proofs.Common.{◌≡◌, ℕ, ◌+◌, ◌<◌, ◌≤◌, ◌≢◌, true, leb, List, [], map, length, get_or, take, set, replicate, Some, Option, Ok, Err, Result, inl, inr, refl, sym, ap, ◌∙◌, subst, ⊎_elim, arith, length-set}
 use Rattle.std.specs.List.{remove, refill}
 use Rattle.std.proofs.lemmas.List.{get_or-set_same, get_or-set_other, get_or_default, get_or-map, get_or-replicate, length-replicate}
 use Rattle.std.proofs.lemmas.List.Edits.{length-remove}
-use Rattle.std.proofs.lemmas.Bool.{cases_eq}
+use Rattle.std.proofs.lemmas.Bool.{cases_eq, and_parts, leb-true}
 use Rattle.tasks.specs.declared.task.Task.{Task}
 use Rattle.tasks.specs.declared.units.Ticks.{Ticks}
 use Rattle.tasks.specs.declared.units.Units.{Units}
@@ -16,27 +16,29 @@ use Rattle.preferences.specs.Laws.{Relation}
 use Rattle.seating.specs.declared.seat.Seat.{Seat}
 use Rattle.seating.specs.declared.refusal.AdmitRefusal.{AdmitRefusal}
 use Rattle.seating.specs.declared.refusal.WithdrawRefusal.{WithdrawRefusal}
-use Rattle.seating.specs.Seats.{Lists, tasks_of, no_ticks, no_seat, numbers, all_differ}
+use Rattle.tasks.specs.Units.{no_ticks}
+use Rattle.seating.specs.Seats.{Lists, tasks_of, no_seat, is_numbered, all_numbered, numbers, all_differ}
 use Rattle.seating.specs.Admission.{on, Joins, Admits}
 use Rattle.seating.specs.Withdrawal.{SitsAt, Withdraws}
 use Rattle.seating.proofs.Keeping.{good_joined, tasks_removed, good_removed}
-use Rattle.seating.proofs.Limiting.{within_joined, within_removed, priority_removed}
+use Rattle.seating.proofs.Limiting.{all_joined, all_removed, within_joined, within_removed, priority_removed}
 use Rattle.seating.proofs.Numbering.{differ_joined, differ_left, differ_none}
 use Rattle.seating.proofs.Placing.{length-tasks, length-joined}
 use Rattle.book.specs.Book.{KeptWell}
 use Rattle.rack.specs.Spots.{SpotOn}
-use Rattle.rack.specs.Table.{Sound}
+use Rattle.rack.specs.Table.{Sound, rack_size}
 use Rattle.rack.proofs.Passing.{passing}
 use Rattle.rack.proofs.Taken.{refill_set}
 
-joined_kept : (meaning : Meaning) → JudgeLaws meaning → (x : Task) → within_limits x ≡ true → (ss new : List Seat) → length ss < 32 → KeptWell ss → Joins meaning x ss new → KeptWell new
-joined_kept meaning laws x own ss new room kept j =
+joined_kept : (meaning : Meaning) → JudgeLaws meaning → (x : Task) → is_numbered x ≡ true → within_limits x ≡ true → (ss new : List Seat) → length ss < 32 → KeptWell ss → Joins meaning x ss new → KeptWell new
+joined_kept meaning laws x named own ss new room kept j =
     let ts = tasks_of ss in
     let us = map (λ (s : Seat). s.instant) new in
     let n : length new ≡ length ss + 1 = omega (arith, length-tasks new, ap (length {A = Task}) j.tasks, length-joined x ts, length-tasks ss) in
     let at : (k : ℕ) → k < length ss + 1 → (get_or new k no_seat).instant ≡ get_or us k no_ticks = λ k hi. sym (get_or-map (λ (s : Seat). s.instant) new k no_seat no_ticks (omega arith)) in
     record {
       few = omega arith;
+      numbered = ap all_numbered j.tasks ∙ all_joined is_numbered x ts named kept.numbered;
       limits = ap all_within j.tasks ∙ within_joined x ts own kept.limits;
       order = ap by_priority j.tasks ∙ joined_by_priority x ts kept.order;
       instants = good_joined x ss new us j.tasks j.above (λ k lo hi. at k hi) kept.instants
@@ -49,18 +51,21 @@ removed_kept ss at lt kept =
     let ts = tasks_removed ss at in
     record {
       few = omega (arith, length-remove ss at lt, kept.few);
+      numbered = ap all_numbered ts ∙ all_removed is_numbered (tasks_of ss) at kept.numbered;
       limits = ap all_within ts ∙ within_removed (tasks_of ss) at kept.limits;
       order = ap by_priority ts ∙ priority_removed (tasks_of ss) at kept.order;
       instants = good_removed ss at lt kept.instants;
     }
 
-pub free_sound : (m : ℕ) → 1 ≤ m → m ≤ 16 → Sound (replicate m [])
-free_sound m some few =
+pub at_most_16 : (m : ℕ) → rack_size m ≡ true → m ≤ 16
+at_most_16 m size = leb-true m 16 (and_parts (leb 1 m) (leb m 16) size).1
+
+pub free_sound : (m : ℕ) → rack_size m ≡ true → Sound (replicate m [])
+free_sound m size =
     let n = length-replicate {A = List Seat} m [] in
     record {
-      some = omega arith;
-      few = omega arith;
-      kept_well = λ p lt. subst KeptWell (sym (get_or-replicate m p [] [] (omega arith))) (record { few = omega arith; limits = refl; order = refl; instants = refl });
+      size = ap rack_size n ∙ size;
+      kept_well = λ p lt. subst KeptWell (sym (get_or-replicate m p [] [] (omega arith))) (record { few = omega arith; numbered = refl; limits = refl; order = refl; instants = refl });
       differ = differ_none m;
     }
 
@@ -69,8 +74,7 @@ module _ (b : Lists) (sound : Sound b) where
   changed p new lt kept differ =
       let n = length-set b p new in
       record {
-        some = omega (arith, sound.some);
-        few = omega (arith, sound.few);
+        size = ap rack_size n ∙ sound.size;
         kept_well = λ q h. ⊎_elim
             (λ (same : q ≡ p). subst (λ (j : ℕ). KeptWell (get_or (set b p new) j [])) (sym same) (subst KeptWell (sym (get_or-set_same b p new [] lt)) kept))
             (λ (other : q ≢ p). subst KeptWell (sym (get_or-set_other b p q new [] other)) (sound.kept_well q (omega arith)))
@@ -96,7 +100,7 @@ module _ (b : Lists) (sound : Sound b) where
       let p = a.0 in
       let pass = passing b x (length sheet) g.passes in
       let there = g.preferred.there in
-      subst Sound (sym g.others) (changed p (on c p) there (joined_kept meaning laws x pass.limits (on b p) (on c p) g.preferred.takes.room (sound.kept_well p there) g.joins)
+      subst Sound (sym g.others) (changed p (on c p) there (joined_kept meaning laws x pass.numbered pass.limits (on b p) (on c p) g.preferred.takes.room (sound.kept_well p there) g.joins)
       (differ_joined b p x (on c p) there sound.differ pass.new g.joins.tasks))
   admitted_sound meaning laws before x sheet (Err e) sheet' c (inl early) = subst Sound (sym early.seats_stay) sound
   admitted_sound meaning laws before x sheet (Err e) sheet' c (inr away) = subst Sound (sym away.1.seats_stay) sound

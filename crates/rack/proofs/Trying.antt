@@ -8,7 +8,8 @@ use Rattle.tasks.specs.Priority.{joined}
 use Rattle.tasks.specs.Demand.{no_task}
 use Rattle.judges.specs.Laws.{Meaning}
 use Rattle.seating.specs.declared.seat.Seat.{Seat}
-use Rattle.seating.specs.Seats.{tasks_of, no_ticks, place_of}
+use Rattle.tasks.specs.Units.{no_ticks}
+use Rattle.seating.specs.Seats.{tasks_of, place_of}
 use Rattle.seating.specs.Admission.{said}
 use Rattle.seating.proofs.Placing.{length-tasks, length-joined, place_le}
 use Rattle.rack.specs.declared.trial.Declined.{Declined}

@@ -1,33 +1,32 @@
 -- What holds of every rack at every moment.
-use Rattle.std.specs.Prelude.{◌≡◌, ℕ, List, Result}
+use Rattle.std.specs.Prelude.{ℕ, List, Option, Result}
 use Rattle.tasks.specs.declared.task.Task.{Task}
 use Rattle.tasks.specs.declared.units.Ticks.{Ticks}
 use Rattle.tasks.specs.declared.units.Units.{Units}
 use Rattle.judges.specs.Laws.{Meaning}
 use Rattle.preferences.specs.Laws.{Relation}
+use Rattle.seating.specs.declared.seat.Seat.{Seat}
 use Rattle.seating.specs.declared.refusal.AdmitRefusal.{AdmitRefusal}
 use Rattle.seating.specs.declared.refusal.WithdrawRefusal.{WithdrawRefusal}
+use Rattle.seating.specs.declared.refusal.QuestionRefusal.{QuestionRefusal}
 use Rattle.seating.specs.Seats.{Lists}
 use Rattle.seating.specs.Admission.{Admits}
 use Rattle.seating.specs.Withdrawal.{Withdraws}
+use Rattle.seating.specs.Questions.{Finds, Loads, Shows}
+use Rattle.book.specs.Answers.{One}
 use Rattle.rack.specs.Table.{Table, Sound}
 
--- Whatever is asked of it, there is exactly one answer, sheet and table that the relation of the call allows.
-pub record OneAdmission (meaning : Meaning) (before : Relation) (b : Lists) (x : Task) (sheet : List ℕ) : Type 0 where
-  pub answer : Result (ℕ × Ticks) AdmitRefusal
-  pub sheet_after : List ℕ
-  pub lists_after : Lists
-  pub allowed : Admits meaning before b x sheet answer sheet_after lists_after
-  pub only : (a : Result (ℕ × Ticks) AdmitRefusal) (s : List ℕ) (c : Lists) → Admits meaning before b x sheet a s c → (a ≡ answer) × (s ≡ sheet_after) × (c ≡ lists_after)
-
-pub record OneWithdrawal (b : Lists) (n : ℕ) : Type 0 where
-  pub answer : Result (ℕ × Units × Ticks) WithdrawRefusal
-  pub lists_after : Lists
-  pub allowed : Withdraws b n answer lists_after
-  pub only : (a : Result (ℕ × Units × Ticks) WithdrawRefusal) (c : Lists) → Withdraws b n a c → (a ≡ answer) × (c ≡ lists_after)
-
+-- Of a rack with its lists of seats, its judge's meaning and its preference's order:
 module _ {J P : Type 0} (meaning : J → Meaning) (before : P → Relation) where
   pub record Always (r : Table J P) : Type 0 where
+    -- it is sound;
     pub sound : Sound r.lists
-    pub one_admission : (x : Task) (sheet : List ℕ) → OneAdmission (meaning r.judge) (before r.preference) r.lists x sheet
-    pub one_withdrawal : (n : ℕ) → OneWithdrawal r.lists n
+    -- for each task and sheet there is exactly one answer to its admission, with the sheet and the lists afterwards, that the relation of the call allows;
+    pub one_admission : (x : Task) (sheet : List ℕ) → One (Result (ℕ × Ticks) AdmitRefusal × List ℕ × Lists) (λ a. Admits (meaning r.judge) (before r.preference) r.lists x sheet a.0 a.1 a.2)
+    -- for each number exactly one to its withdrawal, with the lists afterwards;
+    pub one_withdrawal : (n : ℕ) → One (Result (ℕ × Units × Ticks) WithdrawRefusal × Lists) (λ a. Withdraws r.lists n a.0 a.1)
+    -- for each number exactly one to the question where it sits;
+    pub one_finding : (n : ℕ) → One (Option (Seat × ℕ)) (λ a. Finds r.lists n a)
+    -- for each processor exactly one to the question of its load, and exactly one to that of its seats.
+    pub one_load : (p : ℕ) → One (Result ℕ QuestionRefusal) (λ a. Loads r.lists p a)
+    pub one_list : (p : ℕ) → One (Result (List Seat) QuestionRefusal) (λ a. Shows r.lists p a)

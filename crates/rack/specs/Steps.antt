@@ -1,5 +1,5 @@
 -- The calls of a rack, each as one relation: the rack before, the call with its whole answer, the rack after.
-use Rattle.std.specs.Prelude.{◌≡◌, ℕ, ◌<◌, ◌≤◌, false, ◌⊎◌, List, [], ◌∷◌, length, replicate, Some, Ok, Err, Result}
+use Rattle.std.specs.Prelude.{◌≡◌, ℕ, true, false, List, [], ◌∷◌, length, replicate, Some, Ok, Err, Result}
 use Rattle.std.specs.Borrow.{Bor}
 use Rattle.tasks.specs.declared.task.Task.{Task}
 use Rattle.tasks.specs.declared.units.Ticks.{Ticks}
@@ -8,8 +8,7 @@ use Rattle.judges.specs.Laws.{Meaning}
 use Rattle.preferences.specs.Laws.{Relation}
 use Rattle.seating.specs.declared.refusal.AdmitRefusal.{AdmitRefusal}
 use Rattle.seating.specs.declared.refusal.WithdrawRefusal.{WithdrawRefusal}
-use Rattle.seating.specs.declared.refused.Refused.TheVariants.{Making}
-use Rattle.seating.specs.Refusals.{number_of}
+use Rattle.seating.specs.declared.refusal.MakeRefusal.TheVariants.{ProcessorCount}
 use Rattle.seating.specs.Seats.{seated}
 use Rattle.seating.specs.Admission.{earlier, Admits}
 use Rattle.seating.specs.Withdrawal.{Withdraws}
@@ -18,7 +17,7 @@ use Rattle.seating.specs.declared.refusal.QuestionRefusal.{QuestionRefusal}
 use Rattle.seating.specs.Questions.{Finds, Loads, Shows}
 use Rattle.book.specs.Book.{Event, admits, withdraws, finds, loads, lists, MainClaim}
 use Rattle.rack.specs.declared.blank.Blank.{Blank}
-use Rattle.rack.specs.Table.{Table}
+use Rattle.rack.specs.Table.{Table, rack_size}
 
 module _ {J P : Type 0} (meaning : J → Meaning) (before : P → Relation) where
   pub record AdmitStep (r : Table J P) (x : Task) (sheet : List ℕ) (answer : Result (ℕ × Ticks) AdmitRefusal) (sheet' : List ℕ) (s : Table J P) : Type 0 where
@@ -28,8 +27,8 @@ module _ {J P : Type 0} (meaning : J → Meaning) (before : P → Relation) wher
     pub preference : before s.preference ≡ before r.preference
     -- a refusal leaves all seats
     pub lists_stay : (e : AdmitRefusal) → answer ≡ Err e → s.lists ≡ r.lists
-    -- at a cause before 8 nobody is asked: the whole rack is as it was
-    pub untouched : (n : ℕ) → earlier r.lists x (length sheet) ≡ Some n → s ≡ r
+    -- at a cause before `NoTaker` nobody is asked: the whole rack is as it was
+    pub untouched : (e : AdmitRefusal) → earlier r.lists x (length sheet) ≡ Some e → s ≡ r
 
   pub record WithdrawStep (r : Table J P) (n : ℕ) (answer : Result (ℕ × Units × Ticks) WithdrawRefusal) (s : Table J P) : Type 0 where
     pub withdraws : Withdraws r.lists n answer s.lists
@@ -55,18 +54,17 @@ module _ {J P : Type 0} (meaning : J → Meaning) (before : P → Relation) wher
 
   -- a rack of m processors with all seats free; and THE CLAIM over its whole life, whatever is called and however often
   pub record Makes (m : ℕ) (j : J) (p : P) (r : Table J P) : Type 0 where
-    pub some : 1 ≤ m
-    pub few : m ≤ 16
+    pub size : rack_size m ≡ true
     pub free : r.lists ≡ replicate m []
     pub processors : length r.lists ≡ m
     pub judge : r.judge ≡ j
     pub preference : r.preference ≡ p
     pub whole_life : (es : List Event) → Run r es → MainClaim (meaning j) (before p) m es
 
--- a blank, exactly if m is 0 or above 16
+-- a blank, exactly where no rack has m processors
 pub record Blanks {J P : Type 0} (m : ℕ) (j : J) (p : P) (blank : Blank J P) : Type 0 where
-  pub cause : (m ≡ 0) ⊎ (16 < m)
-  pub refused : number_of (Making blank.refusal) ≡ 1
+  pub cause : rack_size m ≡ false
+  pub refused : blank.refusal ≡ ProcessorCount
   pub judge : blank.judge ≡ j
   pub preference : blank.preference ≡ p
 

@@ -7,7 +7,8 @@ use Rattle.tasks.specs.Priority.{joined}
 use Rattle.tasks.specs.Demand.{no_task}
 use Rattle.judges.specs.Laws.{Meaning}
 use Rattle.seating.specs.declared.seat.Seat.{Seat}
-use Rattle.seating.specs.Seats.{tasks_of, no_ticks, no_seat, place_of}
+use Rattle.tasks.specs.Units.{no_ticks}
+use Rattle.seating.specs.Seats.{tasks_of, no_seat, place_of}
 use Rattle.seating.specs.Admission.{said}
 use Rattle.seating.specs.Judging.{FirstNone}
 use Rattle.rack.specs.declared.trial.Trial.{Trial}

@@ -1,7 +1,8 @@
 // A task is admitted to a rack.
 ghost use Rattle.std.specs.Prelude.{◌≡◌, ◌≤◌, ◌++◌, None, length, drop};
+ghost use Rattle.std.specs.Result.{result_err};
 ghost use Rattle.seating.specs.Seats.{all_full};
-ghost use Rattle.seating.specs.Admission.{earlier, refusal_number, Admits};
+ghost use Rattle.seating.specs.Admission.{earlier, Admits};
 ghost use Rattle.book.specs.Book.{admits};
 ghost use Rattle.rack.specs.Choices.{Chosen};
 ghost use Rattle.rack.specs.Table.{Sound};
@@ -50,7 +51,7 @@ impl<J: Judge, P: Preference> Rack<J, P> {
 
     // The first cause that is found without asking the judge.
     fn earlier_cause(&self, newcomer: Task, entries: usize) -> Result<(), AdmitRefusal>
-        ensures cause { refusal_number result ≡ earlier self.now.lists newcomer entries }
+        ensures cause { result_err result ≡ earlier self.now.lists newcomer entries }
         ensures sound { Sound self.now.lists }
     {
         bad_call(self.processors.len(), newcomer, entries)?;

@@ -22,7 +22,7 @@ impl<J: Judge, P: Preference> Rack<J, P> {
         Some((self.processors[p].seats()[at], p))
     }
 
-    /// The load of processor p: the sum of its tasks' shares, in millionths. It is refused with 10 where there is no processor p.
+    /// The load of processor p: the sum of its tasks' shares, in millionths. It is refused as `NoProcessor` where there is no processor p.
     pub fn load(&self, p: usize) -> Result<u64, QuestionRefusal>
         ensures step { Step J.meaning P.before self.now (loads p result) self.now }
         ensures sound { Sound self.now.lists }
@@ -30,7 +30,7 @@ impl<J: Judge, P: Preference> Rack<J, P> {
         Ok(self.processor(p)?.load())
     }
 
-    /// The taken seats of processor p, in priority order, lent. It is refused with 10 where there is no processor p.
+    /// The taken seats of processor p, in priority order, lent. It is refused as `NoProcessor` where there is no processor p.
     pub fn seats(&self, p: usize) -> Result<&[Seat], QuestionRefusal>
         ensures step { Step J.meaning P.before self.now (lists p (shown result)) self.now }
         ensures sound { Sound self.now.lists }

@@ -1,5 +1,6 @@
 // A rack, and how it is made.
-ghost use Rattle.std.specs.Prelude.{◌≡◌, ◌&&◌, nat_le, ◌≤◌, [], replicate};
+ghost use Rattle.std.specs.Prelude.{◌≡◌, ◌≤◌, [], replicate};
+ghost use Rattle.rack.specs.Table.{rack_size};
 ghost use Rattle.rack.specs.Always.{Always};
 
 use super::blank::Blank;
@@ -32,7 +33,7 @@ impl<J, P> Model for Rack<J, P> {
 
 // Whether a rack has so many processors.
 fn may_have(processors: usize) -> bool
-    ensures { result ≡ (nat_le 1 processors && nat_le processors 16) }
+    ensures { result ≡ rack_size processors }
 {
     (1..=16).contains(&processors)
 }
@@ -71,7 +72,7 @@ impl<J: Judge, P: Preference> Rack<J, P> {
     }
 }
 
-/// What holds of every rack at every moment, and that each call has exactly one answer.
+/// At every moment a rack is sound, and each of the five calls, whatever is asked, has exactly one answer that its relation allows, with one sheet and one table afterwards.
 pub fn every_rack<J: Judge, P: Preference>(rack: &Rack<J, P>)
     ensures { Always J.meaning P.before rack.now }
 {

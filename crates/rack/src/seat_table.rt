@@ -57,8 +57,8 @@ impl SeatTable {
         requires { at < length self.old }
         ensures { self.new ≡ renewed self.old at instant }
     {
-        let seat = self.as_slice()[at];
-        self.seats[at] = seat.with_instant(instant);
+        let taken = &mut self.seats[..self.taken];
+        taken[at].renew(instant);
     }
 
     /// The newcomer of a trial takes its seat, and each seat below it keeps the instant of the trial.

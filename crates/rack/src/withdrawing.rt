@@ -12,7 +12,7 @@ use tasks::{Ticks, Units};
 
 impl<J: Judge, P: Preference> Rack<J, P> {
     /// The task of this number leaves; its processor, its work and its period are the answer.
-    /// It is refused with 9 where no task of this number is seated; then nothing changes.
+    /// It is refused as `NotSeated` where no task of this number is seated; then nothing changes.
     pub fn withdraw(&mut self, number: u32) -> Result<(usize, Units, Ticks), WithdrawRefusal>
         ensures step { Step J.meaning P.before self.old (withdraws number result) self.new }
         ensures sound { Sound self.new.lists }

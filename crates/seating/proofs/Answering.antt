@@ -1,49 +1,34 @@
 -- Every call has an answer.
-use Rattle.std.proofs.Common.{◌≡◌, ℕ, zero, suc, ◌+◌, ◌-◌, ◌<◌, ◌≤◌, Bool, true, false, cond, not, ◌||◌, ◌==◌, position, eqb, ltb, ◌⊎◌, List, [], ◌∷◌, ◌++◌, map, length, get_or, take, drop, set, Some, None, Ok, Err, Option, Result, sym, refl, ap, ◌∙◌, subst, inl, inr, ⊎_elim, arith}
+use Rattle.std.proofs.Common.{◌≡◌, ℕ, zero, suc, ◌+◌, ◌-◌, ◌<◌, ◌≤◌, Bool, true, false, ◌||◌, ◌==◌, position, ◌⊎◌, List, [], ◌∷◌, ◌++◌, map, length, get_or, take, drop, set, Some, None, Ok, Err, Option, Result, sym, refl, ap, ◌∙◌, subst, inl, inr, ⊎_elim, arith}
 use Rattle.std.specs.List.{remove}
-use Rattle.std.specs.Option.{option_or, unwrap_or}
+use Rattle.std.specs.Option.{unwrap_or}
 use Rattle.std.specs.List.{range_with_len}
-use Rattle.std.proofs.lemmas.Option.{none-some}
 use Rattle.std.proofs.lemmas.List.FromFn.{length-map-range_with_len, get_or-map-range_with_len}
 use Rattle.std.proofs.lemmas.List.{ext_get_or, get_or-map, get_or-drop}
 use Rattle.std.proofs.lemmas.List.{take-append-drop, drop_at, take_at, take-map, map-append, length-take-le, length-append, length-drop, get_or_append_left, get_or-append_right, get_or-set_same}
 use Rattle.std.proofs.lemmas.Bool.{cases_lt, cases_eq, cases_Bool, not_from_false}
 use Rattle.tasks.specs.declared.task.Task.{Task}
 use Rattle.tasks.specs.declared.units.Ticks.{Ticks}
-use Rattle.tasks.specs.Limits.{period_allowed, work_allowed, within_limits}
+use Rattle.tasks.specs.Limits.{within_limits}
 use Rattle.tasks.specs.Priority.{joined}
 use Rattle.tasks.specs.Demand.{no_task}
 use Rattle.judges.specs.Laws.{Meaning, JudgeLaws}
 use Rattle.preferences.specs.Laws.{Relation, PreferenceLaws}
 use Rattle.seating.specs.declared.seat.Seat.{Seat}
 use Rattle.seating.specs.declared.refusal.AdmitRefusal.{AdmitRefusal}
-use Rattle.seating.specs.declared.refusal.AdmitRefusal.TheVariants.{ShortSheet, NumberZero, BadPeriod, BadWork, AlreadySeated, AllFull, NoTaker}
+use Rattle.seating.specs.declared.refusal.AdmitRefusal.TheVariants.{NoTaker}
 use Rattle.seating.specs.declared.refusal.WithdrawRefusal.TheVariants.{NotSeated}
-use Rattle.seating.specs.declared.refused.Refused.TheVariants.{Admitting}
-use Rattle.seating.specs.Refusals.{number_of}
-use Rattle.seating.specs.Seats.{Lists, tasks_of, no_seat, no_ticks, place_of, holds, seated, all_full, Kept}
+use Rattle.tasks.specs.Units.{no_ticks}
+use Rattle.seating.specs.Seats.{Lists, tasks_of, no_seat, place_of, holds, seated, FirstSpot, Kept}
 use Rattle.seating.specs.Admission.{earlier, said, on, as_seen, WouldTake, Entry, Joins, Admits, AdmitsSome}
 use Rattle.seating.specs.Judging.{Given, AllGiven, FirstNone}
 use Rattle.seating.specs.Withdrawal.{SitsAt, WithdrawsSome}
 use Rattle.seating.proofs.Exactly.{takes_exactly, some_or_none}
-use Rattle.seating.proofs.Spotting.{SpotIn, first_spot}
+use Rattle.seating.proofs.Spotting.{first_spot}
 use Rattle.seating.proofs.Placing.{length-tasks, length-joined, place_le, take-joined, joined_here}
 
 abbrev task_in : Seat → Task
 task_in s = s.task
-
--- the causes before 8 are refusals of an admission
-abbrev chain : Bool → Bool → Bool → Bool → Bool → Bool → Option ℕ
-chain b₁ b₂ b₃ b₄ b₅ b₆ = option_or (cond b₁ (Some 2) (cond b₂ (Some 3) (cond (not b₃) (Some 4) (cond (not b₄) (Some 5) None)))) (cond b₅ (Some 6) (cond b₆ (Some 7) None))
-
-has_name : (b₁ b₂ b₃ b₄ b₅ b₆ : Bool) (n : ℕ) → chain b₁ b₂ b₃ b₄ b₅ b₆ ≡ Some n → (e : AdmitRefusal) × (number_of (Admitting e) ≡ n)
-has_name true b₂ b₃ b₄ b₅ b₆ n h = (ShortSheet, cc)
-has_name false true b₃ b₄ b₅ b₆ n h = (NumberZero, cc)
-has_name false false false b₄ b₅ b₆ n h = (BadPeriod, cc)
-has_name false false true false b₅ b₆ n h = (BadWork, cc)
-has_name false false true true true b₆ n h = (AlreadySeated, cc)
-has_name false false true true false true n h = (AllFull, cc)
-has_name false false true true false false n h = absurd (none-some n h)
 
 below_next : (P : ℕ → Type 0) (k : ℕ) → ((q : ℕ) → q < k → P q) → P k → (q : ℕ) → q < suc k → P q
 below_next P k all here q lt = ⊎_elim (λ (l : q < k). all q l) (λ (ge : k ≤ q). let same : k ≡ q = omega arith in subst P same here) (cases_lt q k)
@@ -198,10 +183,8 @@ module _ (meaning : Meaning) (laws : JudgeLaws meaning) (before : Relation) (pre
   abbrev Answered : Type 0
   Answered = (a : Result (ℕ × Ticks) AdmitRefusal) × (sheet' : List ℕ) × (b' : Lists) × Admits meaning before b x sheet a sheet' b'
 
-  early : (n : ℕ) → earlier b x (length sheet) ≡ Some n → Answered
-  early n h =
-      let e = has_name (ltb (length sheet) (length b)) (eqb x.number 0) (period_allowed x) (work_allowed x) (seated x.number b) (all_full b) n h in
-      (Err e.0, sheet, b, inl (record { cause = h ∙ ap (λ (k : ℕ). Some k) (sym e.1); sheet_stays = refl; seats_stay = refl }))
+  early : (e : AdmitRefusal) → earlier b x (length sheet) ≡ Some e → Answered
+  early e h = (Err e, sheet, b, inl (record { cause = h; sheet_stays = refl; seats_stay = refl }))
 
   module _ (passes : earlier b x (length sheet) ≡ None) (own : within_limits x ≡ true) (long : length b ≤ length sheet) where
     away : AllRefuse meaning laws before prefers b held x own (length b) → Answered
@@ -252,7 +235,7 @@ module _ (meaning : Meaning) (laws : JudgeLaws meaning) (before : Relation) (pre
   late h = served h (grind arith) (grind arith)
 
   any_answer : Answered
-  any_answer = ⊎_elim (λ (s : (n : ℕ) × (earlier b x (length sheet) ≡ Some n)). early s.0 s.1) late (some_or_none (earlier b x (length sheet)))
+  any_answer = ⊎_elim (λ (s : (e : AdmitRefusal) × (earlier b x (length sheet) ≡ Some e)). early s.0 s.1) late (some_or_none (earlier b x (length sheet)))
 
 pub admits_some : AdmitsSome
 admits_some meaning laws before prefers b held x sheet = any_answer meaning laws before prefers b held x sheet
@@ -267,8 +250,8 @@ spot_on : (n : ℕ) (b : Lists) → SpotOn n b ⊎ (seated n b ≡ false)
 spot_on n [] = inr refl
 spot_on n (ss ∷ b) = go (position (λ (s : Seat). s.task.number == n) ss) (first_spot n ss _ refl) (spot_on n b)
   where
-    go : (o : Option ℕ) → SpotIn n ss o → SpotOn n b ⊎ (seated n b ≡ false) → SpotOn n (ss ∷ b) ⊎ ((holds n ss || seated n b) ≡ false)
-    go (Some at) s r = inl (record { p = 0; at = at; sits = record { there = omega arith; within = s.0; number = s.1 } })
+    go : (o : Option ℕ) → FirstSpot n ss o → SpotOn n b ⊎ (seated n b ≡ false) → SpotOn n (ss ∷ b) ⊎ ((holds n ss || seated n b) ≡ false)
+    go (Some at) s r = inl (record { p = 0; at = at; sits = record { there = omega arith; within = s.within; number = s.number } })
     go None no_one (inl r) = inl (record { p = suc r.p; at = r.at; sits = record { there = omega (arith, r.sits.there); within = r.sits.within; number = r.sits.number } })
     go None no_one (inr none) = inr (ap (λ (v : Bool). v || seated n b) no_one ∙ none)
 

@@ -11,7 +11,8 @@ use Rattle.tasks.specs.Priority.{joined}
 use Rattle.tasks.specs.Demand.{no_task, good}
 use Rattle.tasks.proofs.Goods.{good_parts, good_from}
 use Rattle.seating.specs.declared.seat.Seat.{Seat}
-use Rattle.seating.specs.Seats.{tasks_of, no_ticks, no_seat, place_of, keeps_good, first_keep_good, all_keep_good}
+use Rattle.tasks.specs.Units.{no_ticks}
+use Rattle.seating.specs.Seats.{tasks_of, no_seat, place_of, keeps_good, first_keep_good, all_keep_good}
 use Rattle.seating.proofs.Limiting.{work_removed}
 use Rattle.seating.proofs.Placing.{length-tasks, length-joined, place_le}
 

@@ -1,6 +1,6 @@
 -- Limits, loads and priority order, of a list that a task joins or leaves.
-use Rattle.std.proofs.Common.{◌≡◌, ℕ, zero, suc, ◌+◌, ◌*◌, ◌<◌, ◌≤◌, true, List, [], ◌∷◌, length, get_or, refl, ap, ◌∙◌, arith}
-use Rattle.std.specs.List.{remove}
+use Rattle.std.proofs.Common.{◌≡◌, ℕ, zero, suc, ◌+◌, ◌*◌, ◌<◌, ◌≤◌, Bool, true, List, [], ◌∷◌, length, get_or, refl, ap, ◌∙◌, arith}
+use Rattle.std.specs.List.{remove, list_all}
 use Rattle.std.proofs.lemmas.Bool.{and_from, and_parts}
 use Rattle.std.proofs.lemmas.List.Sums.{AllPass-from_list_all, sum_by-le, sum_by-insert, sum_by-remove}
 use Rattle.tasks.specs.declared.task.Task.{Task}
@@ -13,15 +13,22 @@ use Rattle.tasks.proofs.Roundings.{up_least}
 use Rattle.seating.specs.Seats.{load_of, place_of}
 use Rattle.seating.proofs.Placing.{joined_at_place}
 
+-- what each task of a list passes, each passes when one more joins that passes it, and when one leaves
+pub all_joined : (test : Task → Bool) (x : Task) (ts : List Task) → test x ≡ true → list_all test ts ≡ true → list_all test (joined x ts) ≡ true
+all_joined test x [] h k = and_from (test x) true h refl
+all_joined test x (y ∷ ys) h k = grind (arith, all_joined test x ys)
+
+pub all_removed : (test : Task → Bool) (ts : List Task) (i : ℕ) → list_all test ts ≡ true → list_all test (remove ts i) ≡ true
+all_removed test [] zero k = refl
+all_removed test [] (suc i) k = refl
+all_removed test (y ∷ ys) zero k = grind arith
+all_removed test (y ∷ ys) (suc i) k = grind (arith, all_removed test ys i)
+
 pub within_joined : (x : Task) (ts : List Task) → within_limits x ≡ true → all_within ts ≡ true → all_within (joined x ts) ≡ true
-within_joined x [] h k = and_from (within_limits x) true h refl
-within_joined x (y ∷ ys) h k = grind (arith, within_joined x ys)
+within_joined x ts = all_joined within_limits x ts
 
 pub within_removed : (ts : List Task) (i : ℕ) → all_within ts ≡ true → all_within (remove ts i) ≡ true
-within_removed [] zero k = refl
-within_removed [] (suc i) k = refl
-within_removed (y ∷ ys) zero k = grind arith
-within_removed (y ∷ ys) (suc i) k = grind (arith, within_removed ys i)
+within_removed ts i = all_removed within_limits ts i
 
 pub within_each : (ts : List Task) → all_within ts ≡ true → (k : ℕ) (d : Task) → k < length ts → within_limits (get_or ts k d) ≡ true
 within_each ts h = AllPass-from_list_all within_limits ts h

@@ -47,9 +47,6 @@ named_back (Asking NoProcessor) = refl
 pub numbers_differ : NumbersDiffer
 numbers_differ a b e = sym (named_back a) ∙ ap named e ∙ named_back b
 
-same_cause : (e d : AdmitRefusal) → number_of (Admitting e) ≡ number_of (Admitting d) → e ≡ d
-same_cause e d n = let same = numbers_differ (Admitting e) (Admitting d) n in cc
-
 module _ (meaning : Meaning) (x : Task) (ss : List Seat) where
   first_unfit_once : (ts : List Task) (m n : ℕ) → FirstUnfit ts m → FirstUnfit ts n → m ≡ n
   first_unfit_once ts m n f g = grind (arith, f, g, cases_order f.at g.at)
@@ -117,10 +114,10 @@ module _ (meaning : Meaning) (before : Relation) (laws : PreferenceLaws before) 
   once (Ok o) (Err e) s₁ s₂ b₁ b₂ f (inr g) = absurd (g.1.nobody o.0 f.preferred.there f.preferred.takes)
   once (Err e) (Ok o) s₁ s₂ b₁ b₂ (inl f) g = absurd (none-some _ (sym g.passes ∙ f.cause))
   once (Err e) (Ok o) s₁ s₂ b₁ b₂ (inr f) g = absurd (f.1.nobody o.0 g.preferred.there g.preferred.takes)
-  once (Err e) (Err d) s₁ s₂ b₁ b₂ (inl f) (inl g) = (ap (λ (c : AdmitRefusal). Err c) (same_cause e d (let k = f.cause in let l = g.cause in cc)), f.sheet_stays ∙ sym g.sheet_stays, f.seats_stay ∙ sym g.seats_stay)
+  once (Err e) (Err d) s₁ s₂ b₁ b₂ (inl f) (inl g) = (ap (λ (c : AdmitRefusal). Err c) (let k = f.cause in let l = g.cause in cc), f.sheet_stays ∙ sym g.sheet_stays, f.seats_stay ∙ sym g.seats_stay)
   once (Err e) (Err d) s₁ s₂ b₁ b₂ (inl f) (inr g) = absurd (none-some _ (sym g.1.passes ∙ f.cause))
   once (Err e) (Err d) s₁ s₂ b₁ b₂ (inr f) (inl g) = absurd (none-some _ (sym f.1.passes ∙ g.cause))
-  once (Err e) (Err d) s₁ s₂ b₁ b₂ (inr f) (inr g) = (ap (λ (c : AdmitRefusal). Err c) (same_cause e d (f.0 ∙ sym g.0)), sheets_once s₁ s₂ b₁ b₂ f.1 g.1, f.1.seats_stay ∙ sym g.1.seats_stay)
+  once (Err e) (Err d) s₁ s₂ b₁ b₂ (inr f) (inr g) = (ap (λ (c : AdmitRefusal). Err c) (f.0 ∙ sym g.0), sheets_once s₁ s₂ b₁ b₂ f.1 g.1, f.1.seats_stay ∙ sym g.1.seats_stay)
 
 pub admits_once : AdmitsOnce
 admits_once meaning before laws b x sheet a₁ a₂ s₁ s₂ b₁ b₂ h k = once meaning before laws b x sheet a₁ a₂ s₁ s₂ b₁ b₂ h k

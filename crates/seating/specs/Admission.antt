@@ -11,32 +11,26 @@ use Rattle.preferences.specs.declared.contender.Contender.{Contender}
 use Rattle.preferences.specs.Laws.{Relation, PreferenceLaws}
 use Rattle.seating.specs.declared.seat.Seat.{Seat}
 use Rattle.seating.specs.declared.refusal.AdmitRefusal.{AdmitRefusal}
-use Rattle.seating.specs.declared.refused.Refused.TheVariants.{Admitting}
-use Rattle.seating.specs.Refusals.{number_of}
+use Rattle.seating.specs.declared.refusal.AdmitRefusal.TheVariants.{ShortSheet, NumberZero, BadPeriod, BadWork, AlreadySeated, AllFull, NoTaker}
 use Rattle.seating.specs.Seats.{Lists, tasks_of, load_of, no_seat, place_of, seated, all_full, Kept}
 
--- the number of the first cause that shows in the length of the sheet and the newcomer alone, in the order of checking
-abbrev pub bad_call : ℕ → Task → ℕ → Option ℕ
+-- the first cause that shows in the length of the sheet and the newcomer alone, in the order of checking
+abbrev pub bad_call : ℕ → Task → ℕ → Option AdmitRefusal
 bad_call processors x entries =
-    if nat_lt entries processors then Some 2 else
-    if x.number == 0 then Some 3 else
-    if not (period_allowed x) then Some 4 else
-    if not (work_allowed x) then Some 5 else None
+    if nat_lt entries processors then Some ShortSheet else
+    if x.number == 0 then Some NumberZero else
+    if not (period_allowed x) then Some BadPeriod else
+    if not (work_allowed x) then Some BadWork else None
 
 -- and then the first that shows in the lists of seats
-abbrev pub bad_lists : Lists → Task → Option ℕ
+abbrev pub bad_lists : Lists → Task → Option AdmitRefusal
 bad_lists b x =
-    if seated x.number b then Some 6 else
-    if all_full b then Some 7 else None
+    if seated x.number b then Some AlreadySeated else
+    if all_full b then Some AllFull else None
 
--- the number of the first cause before 8 that holds: the lists of seats, the newcomer, the entries of the sheet
-abbrev pub earlier : Lists → Task → ℕ → Option ℕ
+-- the first cause before `NoTaker` that holds: the lists of seats, the newcomer, the entries of the sheet
+abbrev pub earlier : Lists → Task → ℕ → Option AdmitRefusal
 earlier b x entries = option_or (bad_call (length b) x entries) (bad_lists b x)
-
--- the number of the refusal, if there is one
-abbrev pub refusal_number : {A : Type 0} → Result A AdmitRefusal → Option ℕ
-refusal_number (Ok a) = None
-refusal_number (Err e) = Some (number_of (Admitting e))
 
 -- a processor with the seats ss would take x: it has a free seat, and its tasks fit with x in its place
 pub record WouldTake (x : Task) (ss : List Seat) : Type 0 where
@@ -101,8 +95,8 @@ pub record TurnedAway (b : Lists) (x : Task) (sheet sheet' : List ℕ) (b' : Lis
   pub seats_stay : b' ≡ b
 
 -- an earlier cause: nothing changes
-pub record RefusedEarly (b : Lists) (x : Task) (n : ℕ) (sheet sheet' : List ℕ) (b' : Lists) : Type 0 where
-  pub cause : earlier b x (length sheet) ≡ Some n
+pub record RefusedEarly (b : Lists) (x : Task) (e : AdmitRefusal) (sheet sheet' : List ℕ) (b' : Lists) : Type 0 where
+  pub cause : earlier b x (length sheet) ≡ Some e
   pub sheet_stays : sheet' ≡ sheet
   pub seats_stay : b' ≡ b
 
@@ -110,7 +104,7 @@ pub record RefusedEarly (b : Lists) (x : Task) (n : ℕ) (sheet sheet' : List �
 abbrev pub Admits : Meaning → Relation → Lists → Task → List ℕ → Result (ℕ × Ticks) AdmitRefusal → List ℕ → Lists → Type 0
 Admits meaning before b x sheet (Ok a) sheet' b' = Granted meaning before b x sheet a.0 a.1 sheet' b'
 Admits meaning before b x sheet (Err e) sheet' b' =
-    RefusedEarly b x (number_of (Admitting e)) sheet sheet' b' ⊎ ((number_of (Admitting e) ≡ 8) × TurnedAway b x sheet sheet' b')
+    RefusedEarly b x e sheet sheet' b' ⊎ ((e ≡ NoTaker) × TurnedAway b x sheet sheet' b')
 
 -- For all lists of seats, newcomers and sheets the relation allows at most one answer, sheet and table.
 abbrev pub AdmitsOnce : Type 0

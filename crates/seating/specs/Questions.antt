@@ -2,8 +2,7 @@
 use Rattle.std.specs.Prelude.{◌≡◌, ℕ, ◌<◌, ◌≤◌, false, List, [], length, Some, None, Ok, Err, Option, Result, get_or}
 use Rattle.seating.specs.declared.seat.Seat.{Seat}
 use Rattle.seating.specs.declared.refusal.QuestionRefusal.{QuestionRefusal}
-use Rattle.seating.specs.declared.refused.Refused.TheVariants.{Asking}
-use Rattle.seating.specs.Refusals.{number_of}
+use Rattle.seating.specs.declared.refusal.QuestionRefusal.TheVariants.{NoProcessor}
 use Rattle.seating.specs.Seats.{Lists, tasks_of, load_of, no_seat, seated}
 use Rattle.seating.specs.Withdrawal.{SitsAt}
 
@@ -17,15 +16,15 @@ abbrev pub Finds : Lists → ℕ → Option (Seat × ℕ) → Type 0
 Finds b n (Some a) = FoundAt b n a.0 a.1
 Finds b n None = seated n b ≡ false
 
--- there is no processor p: refusal 10
-pub record NotThere (b : Lists) (p : ℕ) (refusal : ℕ) : Type 0 where
+-- there is no processor p
+pub record NotThere (b : Lists) (p : ℕ) (refusal : QuestionRefusal) : Type 0 where
   pub cause : length b ≤ p
-  pub refused : refusal ≡ 10
+  pub refused : refusal ≡ NoProcessor
 
 -- what is asked about processor p is v
 abbrev pub Told : {A : Type 0} → Lists → ℕ → A → Result A QuestionRefusal → Type 0
 Told b p v (Ok a) = (p < length b) × (a ≡ v)
-Told b p v (Err e) = NotThere b p (number_of (Asking e))
+Told b p v (Err e) = NotThere b p e
 
 -- the load of processor p is the sum of its tasks' shares
 abbrev pub Loads : Lists → ℕ → Result ℕ QuestionRefusal → Type 0

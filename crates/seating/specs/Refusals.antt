@@ -1,4 +1,4 @@
--- The numbers of the refusals.
+-- The numbers of the refusals. The rules of the calls name causes; a cause gets its number here alone.
 use Rattle.std.specs.Prelude.{◌≡◌, ℕ, List, ◌++◌, codes, decimal}
 use Rattle.seating.specs.declared.refusal.MakeRefusal.TheVariants.{ProcessorCount}
 use Rattle.seating.specs.declared.refusal.AdmitRefusal.TheVariants.{ShortSheet, NumberZero, BadPeriod, BadWork, AlreadySeated, AllFull, NoTaker}

@@ -1,8 +1,9 @@
 -- The seats of processors as lists: one list a processor, its seats in priority order.
-use Rattle.std.specs.Prelude.{◌≡◌, ℕ, zero, suc, Bool, true, not, ◌&&◌, List, [], ◌∷◌, map, length, get_or, take, ◌==◌, nat_le, sum_by, take_while, flat_map, insert}
+use Rattle.std.specs.Prelude.{◌≡◌, ℕ, zero, suc, ◌<◌, Bool, true, false, not, ◌&&◌, List, [], ◌∷◌, map, length, get_or, take, ◌==◌, nat_le, sum_by, take_while, flat_map, insert, Some, None, Option}
 use Rattle.std.specs.List.{list_all, list_any}
 use Rattle.tasks.specs.declared.task.Task.{Task}
 use Rattle.tasks.specs.declared.units.Ticks.{Ticks}
+use Rattle.tasks.specs.Units.{no_ticks}
 use Rattle.tasks.specs.Limits.{all_within}
 use Rattle.tasks.specs.Share.{share_of}
 use Rattle.tasks.specs.Priority.{stands_above, joined}
@@ -17,9 +18,6 @@ abbrev pub tasks_of : List Seat → List Task
 tasks_of ss = map (λ (s : Seat). s.task) ss
 
 -- what is read past the end of a list
-abbrev pub no_ticks : Ticks
-no_ticks = record { 0 = 0 }
-
 abbrev pub no_seat : Seat
 no_seat = record { task = no_task; instant = no_ticks }
 
@@ -46,6 +44,17 @@ holds n ss = list_any (λ (s : Seat). s.task.number == n) ss
 abbrev pub seated : ℕ → Lists → Bool
 seated n b = list_any (holds n) b
 
+-- the task of the number n sits on a processor at place `at`, and at no place before it does one of this number
+pub record FirstSeat (n : ℕ) (ss : List Seat) (at : ℕ) : Type 0 where
+  pub within : at < length ss
+  pub number : (get_or ss at no_seat).task.number ≡ n
+  pub first : (k : ℕ) → k < at → (get_or ss k no_seat).task.number ≡ n → ⊥
+
+-- where the first task of the number n sits on a processor, or that none does
+abbrev pub FirstSpot : ℕ → List Seat → Option ℕ → Type 0
+FirstSpot n ss (Some at) = FirstSeat n ss at
+FirstSpot n ss None = holds n ss ≡ false
+
 -- whether each processor has 32 tasks
 abbrev pub all_full : Lists → Bool
 all_full b = list_all (λ (ss : List Seat). nat_le 32 (length ss)) b
@@ -64,6 +73,13 @@ all_keep_good ss = first_keep_good ss (length ss)
 -- what every processor of a rack keeps: tasks within the limits, each with a good instant
 abbrev pub Kept : List Seat → Type 0
 Kept ss = (all_within (tasks_of ss) ≡ true) × (all_keep_good ss ≡ true)
+
+-- whether a task has a number from 1; whether each has
+abbrev pub is_numbered : Task → Bool
+is_numbered x = nat_le 1 x.number
+
+abbrev pub all_numbered : List Task → Bool
+all_numbered = list_all is_numbered
 
 -- the numbers of all seated tasks
 abbrev pub numbers_of : List Task → List ℕ

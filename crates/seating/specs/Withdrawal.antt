@@ -4,8 +4,7 @@ use Rattle.std.specs.List.{remove}
 use Rattle.tasks.specs.declared.units.Ticks.{Ticks}
 use Rattle.tasks.specs.declared.units.Units.{Units}
 use Rattle.seating.specs.declared.refusal.WithdrawRefusal.{WithdrawRefusal}
-use Rattle.seating.specs.declared.refused.Refused.TheVariants.{Withdrawing}
-use Rattle.seating.specs.Refusals.{number_of}
+use Rattle.seating.specs.declared.refusal.WithdrawRefusal.TheVariants.{NotSeated}
 use Rattle.seating.specs.Seats.{Lists, no_seat, seated, numbers, all_differ}
 
 -- the task of number n sits at place `at` of processor p
@@ -23,15 +22,15 @@ pub record Leaves (b : Lists) (n p : ℕ) (work : Units) (period : Ticks) (b' : 
   pub seats : b' ≡ slice_set b p (remove (get_or b p []) at)
 
 -- no task of number n is seated: nothing changes
-pub record LeavesNot (b : Lists) (n refusal : ℕ) (b' : Lists) : Type 0 where
+pub record LeavesNot (b : Lists) (n : ℕ) (refusal : WithdrawRefusal) (b' : Lists) : Type 0 where
   pub cause : seated n b ≡ false
-  pub refused : refusal ≡ 9
+  pub refused : refusal ≡ NotSeated
   pub seats_stay : b' ≡ b
 
 -- The relation of a withdrawal of the number n from the lists b: the answer, and the lists after
 abbrev pub Withdraws : Lists → ℕ → Result (ℕ × Units × Ticks) WithdrawRefusal → Lists → Type 0
 Withdraws b n (Ok a) b' = Leaves b n a.0 a.1 a.2 b'
-Withdraws b n (Err e) b' = LeavesNot b n (number_of (Withdrawing e)) b'
+Withdraws b n (Err e) b' = LeavesNot b n e b'
 
 -- Where no number is seated twice, the relation allows at most one answer and table.
 abbrev pub WithdrawsOnce : Type 0

@@ -1,13 +1,14 @@
 // The checks of an admission that need no table.
 ghost use Rattle.std.specs.Prelude.{◌≡◌};
-ghost use Rattle.seating.specs.Admission.{bad_call, refusal_number};
+ghost use Rattle.std.specs.Result.{result_err};
+ghost use Rattle.seating.specs.Admission.{bad_call};
 
 use super::refusal::AdmitRefusal;
 use tasks::Task;
 
 /// Looks for what needs no table. The error is the first cause that shows in the sheet's length and the task alone.
 pub fn bad_call(processors: usize, task: Task, entries: usize) -> Result<(), AdmitRefusal>
-    ensures { refusal_number result ≡ bad_call processors task entries }
+    ensures { result_err result ≡ bad_call processors task entries }
 {
     if entries < processors {
         return Err(AdmitRefusal::ShortSheet);

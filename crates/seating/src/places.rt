@@ -1,7 +1,7 @@
 // A newcomer's place among the seats, and where a number sits.
 ghost use Rattle.std.specs.Prelude.{◌≡◌, ◌≤◌, length, ◌==◌, nat_lt, position};
 ghost use Rattle.tasks.specs.Priority.{stands_above};
-ghost use Rattle.seating.specs.Seats.{tasks_of, place_of};
+ghost use Rattle.seating.specs.Seats.{tasks_of, place_of, FirstSpot};
 
 use super::seat::Seat;
 use tasks::Task;
@@ -13,11 +13,19 @@ fn is_of(seat: Seat, number: u32) -> bool
     seat.task.number == number
 }
 
-/// Where the first task of this number sits.
-pub fn position(seats: &[Seat], number: u32) -> Option<usize>
+// Apart from `position`, so that the chain is told in the library's words and the contract in those of the seats.
+fn first_of(seats: &[Seat], number: u32) -> Option<usize>
     ensures { result ≡ position (λ s. s.task.number == number) seats.now }
 {
     seats.iter().position(|seat| is_of(*seat, number))
+}
+
+/// Where the first task of this number sits, or nothing where none does.
+#[tactic(auto, using(crate::proofs::Spotting::first_spot))]
+pub fn position(seats: &[Seat], number: u32) -> Option<usize>
+    ensures { FirstSpot number seats.now result }
+{
+    first_of(seats, number)
 }
 
 /// Whether a seat is free.

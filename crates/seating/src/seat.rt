@@ -12,10 +12,10 @@ pub struct Seat {
 }
 
 impl Seat {
-    /// The seat with another kept instant.
-    pub fn with_instant(self, instant: Ticks) -> Seat
-        ensures { result ≡ with_instant self instant }
+    /// Keeps another instant.
+    pub fn renew(&mut self, instant: Ticks)
+        ensures { self.new ≡ with_instant self.old instant }
     {
-        Seat { instant, ..self }
+        self.instant = instant;
     }
 }

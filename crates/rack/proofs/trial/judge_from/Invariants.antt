@@ -1,5 +1,5 @@
 use Rattle.std.proofs.Common.{◌≡◌, ℕ, ◌+◌, ◌-◌, ◌<◌, ◌≤◌, length, get_or, Some}
-use Rattle.seating.specs.Seats.{no_ticks}
+use Rattle.tasks.specs.Units.{no_ticks}
 use Rattle.seating.specs.Admission.{said}
 use Rattle.rack.proofs.trial.judge_from.Given as goal
 

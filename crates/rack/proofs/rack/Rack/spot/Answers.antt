@@ -1,8 +1,7 @@
-use Rattle.std.proofs.Common.{◌≡◌, [], get_or, Some, None, sym, ap, ◌∙◌, subst}
+use Rattle.std.proofs.Common.{◌≡◌, [], get_or, sym, ap, ◌∙◌, subst}
 use Rattle.std.proofs.lemmas.List.{get_or_default}
 use Rattle.seating.specs.Seats.{Lists}
 use Rattle.seating.specs.Withdrawal.{SitsAt}
-use Rattle.seating.proofs.Spotting.{first_spot}
 use Rattle.rack.specs.Table.{Table, Sound}
 use Rattle.rack.proofs.Spotting.{sits_at, not_here}
 use Rattle.rack.proofs.rack.Rack.spot.Goals as goal
@@ -14,7 +13,7 @@ returns-in-Some g c =
     let p = c.loop-p.p in
     let here : get_or b p [] ≡ c.seats.result.now = get_or_default b p [] c.processor-item.result c.loop-p-test.true ∙ sym c.processor-item.is ∙ sym c.seats.ensures.list in
     let sits : SitsAt b c.args.number p c.in-Some.at =
-    sits_at c.args.number b p c.seats.result.now c.loop-p-test.true here c.in-Some.at (first_spot c.args.number c.seats.result.now (Some c.in-Some.at) c.in-Some.ensures) in
+    sits_at c.args.number b p c.seats.result.now c.loop-p-test.true here c.in-Some.at c.in-Some.ensures in
     record { spot = subst (λ (l : Lists). SitsAt l c.args.number p c.in-Some.at) (c.deref-processor-items.ensures.0 ∙ is) sits; sound = subst Sound is c.self.invariant }
 
 pub loop-p-preserved : goal.loop-p-preserved
@@ -22,4 +21,4 @@ loop-p-preserved g c =
     let b = c.deref-processor-items.result.now in
     let p = c.loop-p.p in
     let here : get_or b p [] ≡ c.seats.result.now = get_or_default b p [] c.processor-item.result c.loop-p-test.true ∙ sym c.processor-item.is ∙ sym c.seats.ensures.list in
-    not_here c.args.number b p c.seats.result.now c.loop-p-test.true here (first_spot c.args.number c.seats.result.now None c.in_default.ensures) c.loop-p.invariant
+    not_here c.args.number b p c.seats.result.now c.loop-p-test.true here c.in_default.ensures c.loop-p.invariant

@@ -2,7 +2,8 @@ use Rattle.std.proofs.Common.{◌≡◌, ℕ, ◌+◌, ◌-◌, ◌<◌, ◌≤�
 use Rattle.std.proofs.lemmas.List.Edits.{length-between, get_or-between}
 use Rattle.tasks.specs.declared.units.Ticks.{Ticks}
 use Rattle.seating.specs.declared.seat.Seat.{Seat}
-use Rattle.seating.specs.Seats.{tasks_of, no_ticks}
+use Rattle.tasks.specs.Units.{no_ticks}
+use Rattle.seating.specs.Seats.{tasks_of}
 use Rattle.seating.proofs.Placing.{place_le, length-tasks}
 use Rattle.rack.proofs.Renewings.{Renewing, renewing_more, length-seated, seated_with}
 use Rattle.rack.proofs.seat_table.SeatTable.seat.Goals as goal
