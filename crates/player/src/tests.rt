@@ -1,6 +1,8 @@
-// The player on long files, and on readers and writers that move little at a time, are interrupted, or fail.
-use playing::{Halt, play};
+// The player by its arguments, on long files, and on readers and writers that move little at a time, are interrupted, or fail.
+use crate::asked;
+use playing::{Asked, Halt, carry_out, play};
 use std::alloc::Global;
+use std::env::{Env, FillError};
 use std::io::{self, BufWriter, Error, ErrorKind, Read, Write};
 use std::test::Fail;
 
@@ -214,5 +216,63 @@ fn writes_of_nothing(rt: HostRuntime) -> Result<(), Fail> {
         _ => None,
     };
     assert_eq!(rt; kind, Some(ErrorKind::WriteZero));
+    Ok(())
+}
+
+// The arguments of a program, its name first.
+#[derive(Clone, Copy)]
+struct Arguments<'a>(&'a [&'a str]);
+
+impl Env for Arguments<'_> {
+    fn arg(&self, i: usize, room: &mut [u8]) -> Result<usize, FillError> {
+        let argument = self.0.get(i).ok_or(FillError::NotPresent)?.as_bytes();
+        if argument.len() > room.len() {
+            return Err(FillError::TooLong);
+        }
+        room[..argument.len()].copy_from_slice(argument);
+        Ok(argument.len())
+    }
+
+    fn var(&self, _name: &str, _room: &mut [u8]) -> Result<usize, FillError> {
+        Err(FillError::NotPresent)
+    }
+
+    fn var_at(&self, _i: usize, _room: &mut [u8]) -> Result<usize, FillError> {
+        Err(FillError::NotPresent)
+    }
+}
+
+// The first argument alone, whole and as it stands, asks for a text.
+#[test]
+fn first_argument_asks(rt: HostRuntime) -> Result<(), Fail> {
+    let all: [(&[&str], Asked); 8] = [
+        (&["player", "--help"], Asked::Help),
+        (&["player", "--version", "--help"], Asked::Version),
+        (&[], Asked::Play),
+        (&["player"], Asked::Play),
+        (&["--help"], Asked::Play),
+        (&["player", "line.rak", "--help"], Asked::Play),
+        (&["player", "--helpful"], Asked::Play),
+        (&["player", "--help--help--help"], Asked::Play),
+    ];
+    for (arguments, wanted) in all {
+        assert_eq!(rt; asked(&Arguments(arguments)), wanted);
+    }
+    Ok(())
+}
+
+// A text that is asked for is written, and nothing is read.
+#[test]
+fn version_told(rt: HostRuntime) -> Result<(), Fail> {
+    let file = file_of(rt.alloc(), "saw", 1)?;
+    let mut left = file.as_slice();
+    let mut out = BufWriter::new(rt.alloc(), Vec::new(rt.alloc()))?;
+    carry_out(rt.alloc(), Asked::Version, &mut left, &mut out)?;
+    assert_eq!(rt; left.len(), file.len());
+    let (text, _) = out.into_parts();
+    assert_eq!(rt;
+        text.as_slice(),
+        b"player 1.0, for rack files of version 1\n".as_slice()
+    );
     Ok(())
 }

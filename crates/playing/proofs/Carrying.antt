@@ -1,5 +1,5 @@
 -- The line of what is carried is the line of the rack's answer.
-use Rattle.std.proofs.Common.{◌≡◌, ℕ, ◌^◌, ◌<◌, ltb, List, Ok, Err, Result, MatchResult, IsErrAnd, ap, ◌∙◌, arith}
+use Rattle.std.proofs.Common.{◌≡◌, ℕ, ◌^◌, ◌<◌, ltb, List, length, Ok, Err, Result, MatchResult, IsErrAnd, ap, ◌∙◌, arith}
 use Rattle.std.proofs.lemmas.Bool.{cond-true, lt-ltb}
 use Rattle.tasks.specs.declared.task.Task.{Task}
 use Rattle.tasks.specs.declared.units.Ticks.{Ticks}
@@ -12,6 +12,7 @@ use Rattle.seating.specs.declared.refused.Refused.{Refused}
 use Rattle.seating.specs.declared.refused.Refused.TheVariants.{Admitting, Withdrawing}
 use Rattle.rack.specs.Table.{Table, Sound}
 use Rattle.rack.specs.Steps.{AdmitStep, WithdrawStep}
+use Rattle.rack.proofs.Soundness.{at_most_16}
 use Rattle.lines.specs.Texts.{admitted_line, withdrawn_line}
 use Rattle.playing.specs.Outcomes.{carried, in_line, admission_line, withdrawal_line}
 use Rattle.playing.specs.Playing.{admit_line, withdraw_line}
@@ -27,13 +28,13 @@ module _ {J P : Type 0} (meaning : J → Meaning) (before : P → Relation) (r s
   pub admission_told : (task : Task) (index : ℕ) (label sheet sheet' : List ℕ) (answer : Result (ℕ × Ticks) AdmitRefusal) (q : Result (ℕ × Ticks) Refused) → AdmitStep meaning before r task sheet answer sheet' s → Sound s.lists
       → IsMapped Admitting answer q → admission_line index label (carried index q) ≡ admit_line index label answer
   admission_told task index label sheet sheet' (Ok d) q step sound is =
-      ap (λ o. admission_line index label (carried index o)) is ∙ ap (λ p. admitted_line index label p d.1.0) (small_in_line d.0 (omega (arith, step.admits.preferred.there, step.processors, sound.few)))
+      ap (λ o. admission_line index label (carried index o)) is ∙ ap (λ p. admitted_line index label p d.1.0) (small_in_line d.0 (omega (arith, step.admits.preferred.there, step.processors, at_most_16 (length s.lists) sound.size)))
   admission_told task index label sheet sheet' (Err e) (Ok d) step sound is = absurd is
   admission_told task index label sheet sheet' (Err e) (Err f) step sound is = ap (λ g. admission_line index label (carried {A = ℕ × Ticks} index (Err g))) is
 
   pub withdrawal_told : (n index : ℕ) (answer : Result (ℕ × Units × Ticks) WithdrawRefusal) (q : Result (ℕ × Units × Ticks) Refused) → WithdrawStep meaning before r n answer s → Sound s.lists
       → IsMapped Withdrawing answer q → withdrawal_line index n (carried index q) ≡ withdraw_line index n answer
   withdrawal_told n index (Ok d) q step sound is =
-      ap (λ o. withdrawal_line index n (carried index o)) is ∙ ap (λ p. withdrawn_line index n p) (small_in_line d.0 (omega (arith, step.withdraws.sits.there, step.processors, sound.few)))
+      ap (λ o. withdrawal_line index n (carried index o)) is ∙ ap (λ p. withdrawn_line index n p) (small_in_line d.0 (omega (arith, step.withdraws.sits.there, step.processors, at_most_16 (length s.lists) sound.size)))
   withdrawal_told n index (Err e) (Ok d) step sound is = absurd is
   withdrawal_told n index (Err e) (Err f) step sound is = ap (λ g. withdrawal_line index n (carried {A = ℕ × Units × Ticks} index (Err g))) is

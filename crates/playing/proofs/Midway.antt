@@ -66,7 +66,7 @@ pub record Midway (policy : Policy) (m : ℕ) (all : List Seen) (r : Table Point
 module _ (policy : Policy) (m : ℕ) (all : List Seen) where
   pub begun : (judge : Points) (r : Table Points Policy) → all_allowed all ≡ true → Makes (λ _. least_good_point) policy_before m judge policy r → Midway policy m all r blank_sheet 0 all []
   begun judge r allowed made = record {
-    sound = subst Sound (sym made.free) (free_sound m made.some made.few);
+    sound = subst Sound (sym made.free) (free_sound m made.size);
     preference = ap policy_before made.preference;
     allowed = allowed;
     goes_on = λ rest l. subst (λ (b : Book). Lines policy b blank_sheet 0 all rest) made.free l;

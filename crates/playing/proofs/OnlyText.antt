@@ -23,7 +23,7 @@ use Rattle.rackfile.specs.declared.fault.FileFault.{FileFault}
 use Rattle.rackfile.specs.Records.{Seen, admits, withdraws}
 use Rattle.rackfile.specs.Files.{File, reading}
 use Rattle.lines.specs.Texts.{line_text}
-use Rattle.playing.proofs.Readings.{rack_size}
+use Rattle.playing.proofs.Readings.{size_of_file}
 use Rattle.playing.specs.Playing.{admit_line, withdraw_line}
 use Rattle.playing.specs.Lines.{Lines, blank_sheet, TextOf, OneText}
 
@@ -70,8 +70,7 @@ module _ (policy : Policy) where
 one_of_reading : (input : List ℕ) (r : Result File FileFault) → reading input ≡ r → One (List ℕ) (TextOf r)
 one_of_reading input (Err e) is = record { it = _; is = refl; only = λ text h. h }
 one_of_reading input (Ok f) is =
-    let size = rack_size input f is in
-    one_text_of f.policy f.records (new_book f.processors) (free_sound f.processors size.some size.few) blank_sheet 0
+    one_text_of f.policy f.records (new_book f.processors) (free_sound f.processors (size_of_file input f is)) blank_sheet 0
 
 pub one_text : OneText
 one_text input = one_of_reading input (reading input) refl

@@ -1,5 +1,5 @@
 -- Of every reading: a rack can be made of a file's number of processors, and the place of a fault can stand in a line.
-use Rattle.std.proofs.Common.{◌≡◌, ℕ, zero, suc, ◌+◌, ◌^◌, ◌<◌, ◌≤◌, Bool, true, false, not, cond, eqb, ltb, leb, List, length, get_or, take, drop, is_some, Some, None, Ok, Err, Option, Result, IfErr, IfSome, refl, ap, arith}
+use Rattle.std.proofs.Common.{◌≡◌, ℕ, zero, suc, ◌+◌, ◌^◌, ◌<◌, ◌≤◌, Bool, true, false, not, cond, eqb, ltb, leb, List, length, get_or, take, drop, is_some, Some, None, Ok, Err, Option, Result, IfErr, IfSome, refl, sym, ap, ◌∙◌, arith}
 use Rattle.std.proofs.lemmas.Bool.{and_parts, leb-true, ltb-false, not-false}
 use Rattle.std.proofs.lemmas.List.{length-take-le}
 use Rattle.std.proofs.lemmas.List.Quantifiers.{position-Some}
@@ -17,6 +17,7 @@ use Rattle.rackfile.specs.Records.{Seen, printable, first_bad, length_allowed, t
 use Rattle.rackfile.specs.Files.{File, is_mark, is_version, processors_allowed, cut, header_fault, count_in, read_records, with_records, with_header, judging, reading}
 use Rattle.rackfile.proofs.Undoing.{ok_same, cond-right, cond-wrong, cond-none}
 use Rattle.lines.specs.Texts as texts
+use Rattle.rack.specs.Table.{rack_size}
 use Rattle.playing.specs.Outcomes.{unreadable}
 use Rattle.playing.proofs.Carrying.{small_in_line}
 
@@ -41,20 +42,15 @@ processors_of whole (Some p) m (Ok x) f e =
     let d = cond-right (eqb (length x.1) 0) (Ok (record { policy = p; processors = m; records = x.0 })) _ f e in
     ap (λ (z : File). z.processors) (ok_same (record { policy = p; processors = m; records = x.0 }) f d.1)
 
--- a rack has so many processors
-pub record RackSize (m : ℕ) : Type 0 where
-  pub some : 1 ≤ m
-  pub few : m ≤ 16
-
-pub rack_size : (input : List ℕ) (f : File) → reading input ≡ Ok f → RackSize f.processors
-rack_size input f e = head (header_fault (length input) input) refl (cond-wrong (too_long input) _ (judging input) f e).1
+-- a file's processors are as many as a rack's
+pub size_of_file : (input : List ℕ) (f : File) → reading input ≡ Ok f → rack_size f.processors ≡ true
+size_of_file input f e = head (header_fault (length input) input) refl (cond-wrong (too_long input) _ (judging input) f e).1
   where
-    head : (o : Option FileFault) → header_fault (length input) input ≡ o → with_header input o ≡ Ok f → RackSize f.processors
+    head : (o : Option FileFault) → header_fault (length input) input ≡ o → with_header input o ≡ Ok f → rack_size f.processors ≡ true
     head (Some g) q h = absurd cc
     head None q h =
         let m = processors_of (length input) (policy_named (get_or input 5 0)) (get_or input 6 0) (read_records (length input) (count_in input) (drop 9 input)) f h in
-        let both = and_parts (leb 1 (get_or input 6 0)) (leb (get_or input 6 0) 16) (header_allows (length input) input q) in
-        record { some = omega (arith, m, leb-true 1 (get_or input 6 0) both.0); few = omega (arith, m, leb-true (get_or input 6 0) 16 both.1) }
+        ap rack_size (sym m) ∙ header_allows (length input) input q
 
 -- ==== The place of a fault
 

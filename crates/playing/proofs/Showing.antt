@@ -21,24 +21,24 @@ use Rattle.book.specs.Book.{Book, Event, after, Right}
 use Rattle.book.specs.Book as call
 use Rattle.playing.specs.Lines.{RefusalsShown}
 
-never_two : (short zero period work known full : Bool) → short ≡ false
-    → option_or {T = ℕ} (cond short (Some 2) (cond zero (Some 3) (cond period (Some 4) (cond work (Some 5) None)))) (cond known (Some 6) (cond full (Some 7) None)) ≡ Some 2 → ⊥
-never_two true z p w k f h e = absurd cc
-never_two false true p w k f h e = absurd cc
-never_two false false true w k f h e = absurd cc
-never_two false false false true k f h e = absurd cc
-never_two false false false false true f h e = absurd cc
-never_two false false false false false true h e = absurd cc
-never_two false false false false false false h e = absurd cc
+not_short : (short zero period work known full : Bool) → short ≡ false
+    → option_or {T = AdmitRefusal} (cond short (Some ShortSheet) (cond zero (Some NumberZero) (cond period (Some BadPeriod) (cond work (Some BadWork) None)))) (cond known (Some AlreadySeated) (cond full (Some AllFull) None)) ≡ Some ShortSheet → ⊥
+not_short true z p w k f h e = absurd cc
+not_short false true p w k f h e = absurd cc
+not_short false false true w k f h e = absurd cc
+not_short false false false true k f h e = absurd cc
+not_short false false false false true f h e = absurd cc
+not_short false false false false false true h e = absurd cc
+not_short false false false false false false h e = absurd cc
 
-sheet_long : (b : Book) (x : Task) (sheet : List ℕ) → length b ≤ 16 → length sheet ≡ 16 → earlier b x (length sheet) ≡ Some 2 → ⊥
+sheet_long : (b : Book) (x : Task) (sheet : List ℕ) → length b ≤ 16 → length sheet ≡ 16 → earlier b x (length sheet) ≡ Some ShortSheet → ⊥
 sheet_long b x sheet few long e =
-    never_two (ltb (length sheet) (length b)) (eqb x.number 0) (not (period_allowed x)) (not (work_allowed x)) (seated x.number b) (all_full b) (le-ltb (length sheet) (length b) (omega (arith, few, long))) e
+    not_short (ltb (length sheet) (length b)) (eqb x.number 0) (not (period_allowed x)) (not (work_allowed x)) (seated x.number b) (all_full b) (le-ltb (length sheet) (length b) (omega (arith, few, long))) e
 
 admissions : (policy : Policy) (b : Book) (x : Task) (sheet sheet' : List ℕ) (e : AdmitRefusal) → length b ≤ 16 → length sheet ≡ 16
     → Right least_good_point (policy_before policy) b (call.admits x sheet (Err e) sheet') → (3 ≤ number_of (Admitting e)) × (number_of (Admitting e) ≤ 8)
 admissions policy b x sheet sheet' ShortSheet few long (inl r) = absurd (sheet_long b x sheet few long r.cause)
-admissions policy b x sheet sheet' ShortSheet few long (inr r) = absurd (omega (arith, r.0))
+admissions policy b x sheet sheet' ShortSheet few long (inr r) = absurd (let e = r.0 in cc)
 admissions policy b x sheet sheet' NumberZero few long r = (omega arith, omega arith)
 admissions policy b x sheet sheet' BadPeriod few long r = (omega arith, omega arith)
 admissions policy b x sheet sheet' BadWork few long r = (omega arith, omega arith)

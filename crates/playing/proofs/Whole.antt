@@ -63,6 +63,10 @@ handed_on Kind held mid held' (Err e) w k = (
   },
 )
 
+-- so it is with a text that is known
+pub told_on : {E : Type 0} (text : List ℕ) (held mid held' : Known) (r : Result (Unit {0}) E) → Appends held mid text → Keeps mid held' → Writes (λ t. t ≡ text) held held' r
+told_on text held mid held' r a k = handed_on (λ t. t ≡ text) held mid held' r (text, refl, a) k
+
 -- ==== The whole run
 
 module _ (had had' held held' : Known) (input text : List ℕ) (taken : Taken 65537 had had' input) (is : text ≡ input) where

@@ -4,3 +4,4 @@ pub mod Beginning
 pub mod Lines
 pub mod Streams
 pub mod Running
+pub mod Arguments

@@ -1,6 +1,7 @@
 // Playing a rack file: a rack for the file, and one line a record.
 #![tactic(auto)]
 
+mod arguments;
 mod fault;
 mod halt;
 mod opening;
@@ -10,6 +11,7 @@ mod run;
 mod streams;
 mod theorems;
 
+pub use arguments::{Asked, carry_out};
 pub use fault::{PlayerFault, RefusedRecord};
 pub use halt::Halt;
 pub use run::play;

@@ -66,10 +66,10 @@ pub(crate) fn withdrawal_line<'a>(
     ensures { seen_as result ≡ withdrawal_line index number outcome }
 {
     match outcome {
-        Ok((processor, _, _)) => Line::Withdrawn {
+        Ok((left, _, _)) => Line::Withdrawn {
             index,
             number,
-            processor: in_line(processor),
+            processor: in_line(left),
         },
         Err(PlayerFault::Turned(refused)) => Line::NotWithdrawn {
             index: refused.index,
