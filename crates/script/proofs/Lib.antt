@@ -1,1 +1,2 @@
 pub mod Wording
+pub mod Parting

@@ -2,6 +2,7 @@
 ghost use Rattle.std.specs.Prelude.{◌≡◌, vec_items};
 ghost use Rattle.script.specs.NoCalls.{Reads};
 ghost use Rattle.script.specs.Fields.{with_digit, numbers_of};
+ghost use Rattle.script.specs.FieldLaws.{FieldsWriteNumbers};
 
 use crate::no_call::NoCall;
 use std::alloc::Global;
@@ -35,3 +36,8 @@ pub fn numbers(alloc: Global, text: &[u8]) -> Result<Vec<u32>, NoCall>
     all.push(so_far.ok_or(NoCall::Unreadable)?)?;
     Ok(all)
 }
+
+/// The numbers of a text are those that its fields write: one decimal digit or more each, of a value that has 32 bits, with a single space between each two.
+pub fn fields_write_numbers()
+    ensures { FieldsWriteNumbers }
+{}

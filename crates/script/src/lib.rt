@@ -11,7 +11,7 @@ mod words;
 
 pub use answers::{Answer, answer_for};
 pub use calls::{Call, Rehearsal, read, split_word};
-pub use fields::numbers;
+pub use fields::{fields_write_numbers, numbers};
 pub use lines::{is_passed_over, reply};
 pub use no_call::NoCall;
 pub use words::Word;
