@@ -1,11 +1,11 @@
 // The test program: a script on standard input, a call a line, and each line written back with its answer.
 #![tactic(auto)]
 
-use desk::{Desk, reply, without_end};
+use console::{Console, reply, without_end};
 use std::io::{BufRead, BufReader, Write};
 
 fn main(rt: HostRuntime) -> anyhow::Result<()> {
-    let mut desk: Desk = None;
+    let mut console: Console = None;
     let mut input = BufReader::new(rt.alloc(), rt.stdin())?;
     let mut line = Vec::new(rt.alloc());
     // Nothing says that an input ends, so its lines are counted, as std counts them.
@@ -14,7 +14,7 @@ fn main(rt: HostRuntime) -> anyhow::Result<()> {
         if input.read_until(b'\n', &mut line)? == 0 {
             break;
         }
-        let back = reply(rt.alloc(), &mut desk, without_end(line.as_slice()))?;
+        let back = reply(rt.alloc(), &mut console, without_end(line.as_slice()))?;
         rt.write_all(back.as_slice())?;
         rt.write_all(b"\n")?;
     }
@@ -23,7 +23,7 @@ fn main(rt: HostRuntime) -> anyhow::Result<()> {
 
 #[cfg(test)]
 mod tests {
-    use desk::read_answer;
+    use console::read_answer;
     use std::alloc::{AllocError, Global};
     use std::test::Fail;
 

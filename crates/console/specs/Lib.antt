@@ -1,0 +1,13 @@
+pub mod Console
+pub mod Lost
+pub mod Endings
+pub mod Unanswered
+pub mod Hex
+pub mod Names
+pub mod Files
+pub mod Making
+pub mod Texts
+pub mod Asking
+pub mod Plays
+pub mod Replies
+pub mod Questions
