@@ -11,7 +11,7 @@ use Rattle.cases.proofs.Sampled.{all_answered, all_sampled}
 
 by_computing : AllByRecursion Settled computed
 unfolding up least
-by_computing = ((refl, refl), ((refl, refl), ((refl, refl), ((refl, refl), ((refl, refl), ((refl, refl), ((refl, refl), ((refl, refl), (refl, (refl, (refl, ((refl, refl), ((refl, refl), tt)))))))))))))
+by_computing = ((refl, refl), ((refl, refl), ((refl, refl), ((refl, refl), ((refl, refl), ((refl, refl), ((refl, refl), ((refl, refl), ((refl, refl), (refl, (refl, (refl, (refl, (refl, ((refl, refl), ((refl, refl), tt))))))))))))))))
 
 by_lemma : AllByRecursion Settled long
 by_lemma = ((none_point (task 1 1000000) (lit≤ tt), none_least (task 1 1000000) (lit≤ tt)), tt)

@@ -10,6 +10,8 @@ use Rattle.machine.specs.declared.state.Release.{Release}
 use Rattle.machine.specs.declared.state.Outcome.{Outcome}
 use Rattle.machine.specs.Machine.{outcome}
 use Rattle.machine.specs.Lawful.{lawful}
+use Rattle.schedule.specs.Synchronous.{synchronous}
+use Rattle.schedule.specs.Examples.{release}
 use Rattle.preferences.specs.declared.policy.Policy.{Policy}
 use Rattle.preferences.specs.declared.policy.Policy.TheVariants.{First}
 use Rattle.preferences.specs.Laws.{Relation}
@@ -29,9 +31,6 @@ task c t = task_of 1 c t
 abbrev pub at : ℕ → Option Ticks
 at t = Some (record { 0 = t })
 
-abbrev pub release : ℕ → ℕ → Release
-release place instant = record { place = place; instant = record { 0 = instant } }
-
 -- a run that ends with a miss, or with none, and its busy ticks
 abbrev pub misses : ℕ → ℕ → ℕ → Outcome
 misses place instant busy = record { miss = Some (record { place = place; instant = record { 0 = instant } }); busy = record { 0 = busy } }
@@ -46,6 +45,8 @@ pub data Case : Type 0 where
   shared : Task → Option ℕ → Case
   -- the scheduling points of a task below others, from the least up
   pointed : Task → List Task → List ℕ → Case
+  -- tasks released at all multiples of their periods below a horizon: the release list
+  released : List Task → (horizon : ℕ) → List Release → Case
   -- a lawful release list for tasks up to a horizon: how the run of the machine ends
   rehearsed : List Task → (horizon : ℕ) → List Release → Outcome → Case
   -- lists of seats, a newcomer and a preference: the processor that takes it
@@ -65,10 +66,15 @@ abbrev pub Settled : Case → Type 0
 Settled (judged x above points steps) = (least_good_point x above ≡ points) × (least_good_instant x above ≡ steps)
 Settled (shared x share) = share_answer x ≡ share
 Settled (pointed x above points) = those (point x above) x.period.0 ≡ points
+Settled (released ts horizon rs) = synchronous ts 0 horizon ≡ rs
 Settled (rehearsed ts horizon rs o) = (lawful ts horizon rs ≡ true) × (outcome ts horizon rs ≡ o)
 Settled (placed b x before p) = Preferred before b x p
 Settled (answered policy b e) = Right least_good_point (policy_before policy) b e
 Settled (played bytes text) = PlayerText bytes text
+
+-- the sheet of Lehoczky, Sha and Ding (1989), with a work in the place of its first task's 20
+abbrev pub sheet : ℕ → List Task
+sheet c = task c 100 ∷ task 40 150 ∷ task 100 350 ∷ []
 
 -- the multiples of 100, 150 and 350 below 350
 abbrev pub multiples : List Release
@@ -87,6 +93,8 @@ computed =
     ∷ judged (task 100 350) (task 40 100 ∷ task 40 150 ∷ []) (at 300) (at 300)
     -- with 41
     ∷ judged (task 100 350) (task 41 100 ∷ task 40 150 ∷ []) None None
+    -- of the multiples of 3 the first good one is 9, and the least good point is a multiple of 4
+    ∷ judged (task 3 9) (task 1 3 ∷ task 1 4 ∷ []) (at 8) (at 8)
     -- a task that takes every tick
     ∷ judged (task 1 1) [] (at 1) (at 1)
     -- shares are rounded up
@@ -95,8 +103,10 @@ computed =
     -- periods 5, 14 and 30
     ∷ pointed (task 1 30) (task 1 5 ∷ task 1 14 ∷ []) (5 ∷ 10 ∷ 14 ∷ 15 ∷ 20 ∷ 25 ∷ 28 ∷ 30 ∷ [])
     -- the sheets with 40 and with 41, released at all multiples of their periods: the second misses, as its third task has no good instant
-    ∷ rehearsed (task 40 100 ∷ task 40 150 ∷ task 100 350 ∷ []) 350 multiples (misses_none 350)
-    ∷ rehearsed (task 41 100 ∷ task 40 150 ∷ task 100 350 ∷ []) 350 multiples (misses 2 350 350)
+    ∷ released (sheet 40) 350 multiples
+    ∷ released (sheet 41) 350 multiples
+    ∷ rehearsed (sheet 40) 350 multiples (misses_none 350)
+    ∷ rehearsed (sheet 41) 350 multiples (misses 2 350 350)
     ∷ []
 
 -- and those with too many instants to compute

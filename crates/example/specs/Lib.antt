@@ -1,0 +1,2 @@
+pub mod LastFit
+pub mod PeriodFirst
