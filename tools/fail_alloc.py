@@ -1,5 +1,5 @@
 #!/usr/bin/env python3
-"""Runs the two programs with their first allocation failing, then their second, and so on, until no run asks for so many.
+"""Runs the two programs with their first allocation failing, then their second, and so on, until all runs end well.
 
 Each run must end in an error, with nothing written but a front part of its whole text (the player: nothing at all), or well, with
 the whole text.
@@ -43,12 +43,12 @@ CASES = {
 
 
 def runs(program, folder, n):
-    """Of each case, with allocation n failing: the text, the status, and how many allocations were made."""
+    """Of each case, with allocation n failing: the text, the status, and how many allocations were made at least."""
     crate = os.path.join(TOP, "crates", program)
     made = subprocess.run(["rt", "try", "--fail-alloc", str(n), "--cases", folder], cwd=crate, capture_output=True)
     parts = re.split(rb"== (\w+)\n", made.stdout)
     texts = dict(zip(parts[1::2], parts[2::2]))
-    ends = re.findall(rb"^allocations: (\d+)\n(?:.*\n)*?case=(\w+) run=ended status=(\d+) ", made.stderr, re.M)
+    ends = re.findall(rb"^allocations: (?:at least )?(\d+)\n(?:.*\n)*?case=(\w+) run=ended status=(\d+) ", made.stderr, re.M)
     if sorted(texts) != sorted(name for _, name, _ in ends):
         sys.exit(f"{program}, allocation {n}: a run has not ended\n{made.stderr.decode()}")
     return {name: (texts[name], int(status), int(count)) for count, name, status in ends}
@@ -67,15 +67,18 @@ def tried(program, cases):
             with open(os.path.join(folder, name), "wb") as case:
                 case.write(given)
         whole = runs(program, folder, 10**6)
-        most = max(count for _, _, count in whole.values())
-        wrong = 0
-        for n in range(1, most + 1):
+        # of a program that reads its arguments, as `player` does, `rt try` counts only those before it reads them
+        least = max(count for _, _, count in whole.values())
+        n, failed, wrong = 0, True, 0
+        while n < least or failed:
+            n, failed = n + 1, False
             for name, (text, status, _) in runs(program, folder, n).items():
+                failed = failed or status != 0
                 if not may_end_so(program, whole[name][0], text, status):
                     wrong += 1
                     print(f"{program} on {name.decode()}, allocation {n}: status {status}, {text!r}")
-        print(f"{program}: up to {most} allocations", flush=True)
-        return most * len(cases), wrong
+        print(f"{program}: allocations 1 to {n}", flush=True)
+        return n * len(cases), wrong
 
 
 def main():
