@@ -19,7 +19,7 @@ use Rattle.seating.proofs.Answering.{admits_some, withdraws_some}
 use Rattle.seating.proofs.Once.{admits_once}
 use Rattle.seating.proofs.WithdrawOnce.{withdraws_once}
 use Rattle.seating.proofs.Numbering.{is_seated_there, one_list, one_place}
-use Rattle.book.specs.Book.{Book, seats_on, Event, admits, withdraws, after, Rules, Right, AtMoment}
+use Rattle.book.specs.Book.{Book, seats_on, Event, admits, withdraws, after, Rules, Right}
 use Rattle.book.specs.Answers.{One, OneRightAnswer}
 use Rattle.book.proofs.Following.{written}
 
@@ -100,13 +100,13 @@ one_withdrawn b once n =
     }
 
 -- by the book
-module _ (meaning : Meaning) (judged : JudgeLaws meaning) (before : Relation) (preferred : PreferenceLaws before) (b : Book) (now : AtMoment b) where
+module _ (meaning : Meaning) (judged : JudgeLaws meaning) (before : Relation) (preferred : PreferenceLaws before) (b : Book) (kept : (q : ℕ) → q < length b → Kept (seats_on b q)) (once : all_differ (numbers b) ≡ true) where
   to_right : (b' : Book) (e : Event) → Rules meaning before b e b' → Right meaning before b e
-  to_right b' e r = subst (λ (c : Book). Rules meaning before b e c) (written meaning before b b' now.seated_once e r) r
+  to_right b' e r = subst (λ (c : Book). Rules meaning before b e c) (written meaning before b b' once e r) r
 
   one_admission : (x : Task) (sheet : List ℕ) → One (Result (ℕ × Ticks) AdmitRefusal × List ℕ) (λ a. Right meaning before b (admits x sheet a.0 a.1))
   one_admission x sheet =
-      let one = one_admitted meaning judged before preferred b (λ q h. ((now.kept_well q h).limits, (now.kept_well q h).instants)) x sheet in
+      let one = one_admitted meaning judged before preferred b kept x sheet in
       record {
         it = (one.it.0, one.it.1);
         is = to_right one.it.2 (admits x sheet one.it.0 one.it.1) one.is;
@@ -115,7 +115,7 @@ module _ (meaning : Meaning) (judged : JudgeLaws meaning) (before : Relation) (p
 
   one_withdrawal : (n : ℕ) → One (Result (ℕ × Units × Ticks) WithdrawRefusal) (λ a. Right meaning before b (withdraws n a))
   one_withdrawal n =
-      let one = one_withdrawn b now.seated_once n in
+      let one = one_withdrawn b once n in
       record {
         it = one.it.0;
         is = to_right one.it.1 (withdraws n one.it.0) one.is;
@@ -127,10 +127,10 @@ asked_right : {A : Type 0} {P : A → Type 0} (b : Book) → One A P → One A (
 asked_right b one = record { it = one.it; is = (one.is, refl); only = λ a r. one.only a r.0 }
 
 pub one_right_answer : OneRightAnswer
-one_right_answer meaning judged before preferred b now = record {
-  admission = one_admission meaning judged before preferred b now;
-  withdrawal = one_withdrawal meaning judged before preferred b now;
-  finding = λ n. asked_right b (one_found b now.seated_once n);
+one_right_answer meaning judged before preferred b kept once = record {
+  admission = one_admission meaning judged before preferred b kept once;
+  withdrawal = one_withdrawal meaning judged before preferred b kept once;
+  finding = λ n. asked_right b (one_found b once n);
   load = λ p. asked_right b (one_told b p (load_of (tasks_of (get_or b p []))));
   seats = λ p. asked_right b (one_told b p (get_or b p []));
 }

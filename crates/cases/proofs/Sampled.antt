@@ -15,15 +15,14 @@ use Rattle.preferences.specs.Fits.{first_fit}
 use Rattle.seating.specs.declared.refusal.AdmitRefusal.TheVariants.{NoTaker}
 use Rattle.seating.specs.Seats.{Lists, no_seat}
 use Rattle.seating.specs.Admission.{WouldTake, as_seen, said, on, Entry}
-use Rattle.book.specs.Book.{Book, admits, withdraws, Right}
+use Rattle.book.specs.Book.{admits, withdraws, Right}
 use Rattle.book.proofs.Moments.{kept_fits}
 use Rattle.rackfile.specs.declared.fault.FileFault.{FileFault}
-use Rattle.rackfile.specs.Records as asks
 use Rattle.rackfile.specs.Files.{File}
 use Rattle.rackfile.specs.Format.{Stands}
 use Rattle.rackfile.proofs.Standing.{reads}
 use Rattle.playing.specs.Lines.{Lines, blank_sheet, TextOf, PlayerText}
-use Rattle.cases.specs.Cases.{Settled, answers, whole, sample, sample_text, seat, two_lists, written_sheet}
+use Rattle.cases.specs.Cases.{Settled, answers, whole, sample, sample_file, sample_text, book_0, book_1, book_2, two_lists, written_sheet}
 use Rattle.cases.proofs.Few.{of_two, only_at}
 
 abbrev saw : Task
@@ -56,16 +55,7 @@ big_unfit_1 : FitsAt (drl ∷ big ∷ []) 1 → ⊥
 unfolding up least
 big_unfit_1 g = both_ways _ (points_lawful.complete big (drl ∷ []) refl refl g.0) g.1
 
--- the book before each record
-abbrev book_0 : Book
-book_0 = [] ∷ [] ∷ []
-
-abbrev book_1 : Book
-book_1 = (seat 1 2 5 5 ∷ []) ∷ [] ∷ []
-
-abbrev book_2 : Book
-book_2 = (seat 1 2 5 5 ∷ seat 2 4 10 10 ∷ []) ∷ [] ∷ []
-
+-- each answer is right by the book before it
 right_0 : Right least_good_point first_fit book_0 (admits saw blank_sheet (Ok (0, record { 0 = 5 })) blank_sheet)
 unfolding up least
 right_0 = record {
@@ -129,43 +119,37 @@ right_4 : Right least_good_point first_fit two_lists (withdraws 2 (Ok (0, record
 right_4 = record { at = 1; sits = record { there = lit≤ tt; within = lit≤ tt; number = refl }; its_work = refl; its_period = refl; seats = refl }
 
 pub all_answered : AllByRecursion Settled answers
-all_answered = (right_3, (right_4, tt))
+unfolding up least
+all_answered = ((right_0, refl), ((right_1, refl), ((right_2, refl), ((right_3, refl), ((right_4, refl), tt)))))
 
 -- what the bytes stand for
-abbrev file : File
-file = record {
-  policy = First;
-  processors = 2;
-  records = asks.admits 1 2 5 (codes "saw") 23 ∷ asks.admits 2 4 10 (codes "cam") 40 ∷ asks.admits 3 3 10 (codes "drl") 57 ∷ asks.admits 4 8 10 (codes "big") 74 ∷ asks.withdraws 2 ∷ [];
-}
-
-file_stands : Stands sample file
+file_stands : Stands sample sample_file
 file_stands = record { bytes = refl; short = lit≤ tt; processors = refl; few = lit≤ tt; allowed = refl; places = refl }
 
 -- the lines from each record on
-from_4 : Lines First two_lists written_sheet 4 (drop 4 file.records) (codes "4 W 2 0\n")
+from_4 : Lines First two_lists written_sheet 4 (drop 4 sample_file.records) (codes "4 W 2 0\n")
 unfolding digits
 from_4 = (Ok (0, record { 0 = 4 }, record { 0 = 10 }), record { right = right_4; rest = []; whole = refl; goes_on = refl })
 
-from_3 : Lines First two_lists blank_sheet 3 (drop 3 file.records) (codes "3 A big R8\n4 W 2 0\n")
+from_3 : Lines First two_lists blank_sheet 3 (drop 3 sample_file.records) (codes "3 A big R8\n4 W 2 0\n")
 unfolding digits
 from_3 = (Err NoTaker, written_sheet, record { right = right_3; rest = _; whole = refl; goes_on = from_4 })
 
-from_2 : Lines First book_2 blank_sheet 2 (drop 2 file.records) (codes "2 A drl 1 10\n3 A big R8\n4 W 2 0\n")
+from_2 : Lines First book_2 blank_sheet 2 (drop 2 sample_file.records) (codes "2 A drl 1 10\n3 A big R8\n4 W 2 0\n")
 unfolding least digits
 from_2 = (Ok (1, record { 0 = 10 }), blank_sheet, record { right = right_2; rest = _; whole = refl; goes_on = from_3 })
 
-from_1 : Lines First book_1 blank_sheet 1 (drop 1 file.records) (codes "1 A cam 0 10\n2 A drl 1 10\n3 A big R8\n4 W 2 0\n")
+from_1 : Lines First book_1 blank_sheet 1 (drop 1 sample_file.records) (codes "1 A cam 0 10\n2 A drl 1 10\n3 A big R8\n4 W 2 0\n")
 unfolding up least digits
 from_1 = (Ok (0, record { 0 = 10 }), blank_sheet, record { right = right_1; rest = _; whole = refl; goes_on = from_2 })
 
-from_0 : Lines First book_0 blank_sheet 0 file.records sample_text
+from_0 : Lines First book_0 blank_sheet 0 sample_file.records sample_text
 unfolding up least digits
 from_0 = (Ok (0, record { 0 = 5 }), blank_sheet, record { right = right_0; rest = _; whole = refl; goes_on = from_1 })
 
 sample_played : PlayerText sample sample_text
-sample_played = subst (λ (r : Result File FileFault). TextOf r sample_text) (sym (reads sample file file_stands)) from_0
+sample_played = subst (λ (r : Result File FileFault). TextOf r sample_text) (sym (reads sample sample_file file_stands)) from_0
 
 pub all_sampled : AllByRecursion Settled whole
 unfolding digits
-all_sampled = (sample_played, (refl, (refl, (refl, (refl, (refl, tt))))))
+all_sampled = (file_stands, (sample_played, (refl, (refl, (refl, (refl, (refl, tt)))))))

@@ -21,7 +21,10 @@ use Rattle.seating.specs.declared.seat.Seat.{Seat}
 use Rattle.seating.specs.declared.refusal.AdmitRefusal.TheVariants.{NoTaker}
 use Rattle.seating.specs.Seats.{Lists}
 use Rattle.seating.specs.Admission.{Preferred}
-use Rattle.book.specs.Book.{Book, Event, admits, withdraws, Right}
+use Rattle.book.specs.Book.{Book, Event, admits, withdraws, new_book, after, Right}
+use Rattle.rackfile.specs.Records as asks
+use Rattle.rackfile.specs.Files.{File}
+use Rattle.rackfile.specs.Format.{Stands}
 use Rattle.playing.specs.Lines.{blank_sheet, PlayerText}
 
 -- work C and period T
@@ -51,8 +54,10 @@ pub data Case : Type 0 where
   rehearsed : List Task → (horizon : ℕ) → List Release → Outcome → Case
   -- lists of seats, a newcomer and a preference: the processor that takes it
   placed : Lists → Task → Relation → (processor : ℕ) → Case
-  -- under a policy, with the points judge, on a book: a call with the answer that is right
-  answered : Policy → Book → Event → Case
+  -- under a policy, with the points judge, on a book: a call with the answer that is right, and the book after it
+  answered : Policy → Book → Event → (next : Book) → Case
+  -- a file's bytes: the file that they stand for
+  filed : List ℕ → File → Case
   -- an input's bytes: what the player writes for them
   played : List ℕ → (text : List ℕ) → Case
 
@@ -69,7 +74,8 @@ Settled (pointed x above points) = those (point x above) x.period.0 ≡ points
 Settled (released ts horizon rs) = synchronous ts 0 horizon ≡ rs
 Settled (rehearsed ts horizon rs o) = (lawful ts horizon rs ≡ true) × (outcome ts horizon rs ≡ o)
 Settled (placed b x before p) = Preferred before b x p
-Settled (answered policy b e) = Right least_good_point (policy_before policy) b e
+Settled (answered policy b e next) = Right least_good_point (policy_before policy) b e × (after least_good_point b e ≡ next)
+Settled (filed bytes file) = Stands bytes file
 Settled (played bytes text) = PlayerText bytes text
 
 -- the sheet of Lehoczky, Sha and Ding (1989), with a work in the place of its first task's 20
@@ -135,11 +141,24 @@ places = placed two_lists newcomer first_fit 0 ∷ placed two_lists newcomer bes
 abbrev pub written_sheet : List ℕ
 written_sheet = 4 ∷ 4 ∷ replicate 14 0
 
--- on the two lists: 8/10 is refused with 8, with the sheet that says why; the second task leaves, and its work and period are given back
+-- how they came about: the new book, with 2/5 on it, and with 4/10
+abbrev pub book_0 : Book
+book_0 = new_book 2
+
+abbrev pub book_1 : Book
+book_1 = (seat 1 2 5 5 ∷ []) ∷ [] ∷ []
+
+abbrev pub book_2 : Book
+book_2 = (seat 1 2 5 5 ∷ seat 2 4 10 10 ∷ []) ∷ [] ∷ []
+
+-- three tasks get their seats; on the two lists 8/10 is refused with 8, with the sheet that says why; the second task leaves, and its work and period are given back
 abbrev pub answers : List Case
 answers =
-    answered First two_lists (admits (task_of 4 8 10) blank_sheet (Err NoTaker) written_sheet)
-    ∷ answered First two_lists (withdraws 2 (Ok (0, record { 0 = 4 }, record { 0 = 10 })))
+    answered First book_0 (admits (task_of 1 2 5) blank_sheet (Ok (0, record { 0 = 5 })) blank_sheet) book_1
+    ∷ answered First book_1 (admits (task_of 2 4 10) blank_sheet (Ok (0, record { 0 = 10 })) blank_sheet) book_2
+    ∷ answered First book_2 (admits (task_of 3 3 10) blank_sheet (Ok (1, record { 0 = 10 })) blank_sheet) two_lists
+    ∷ answered First two_lists (admits (task_of 4 8 10) blank_sheet (Err NoTaker) written_sheet) two_lists
+    ∷ answered First two_lists (withdraws 2 (Ok (0, record { 0 = 4 }, record { 0 = 10 }))) ((seat 1 2 5 5 ∷ []) ∷ (seat 3 3 10 10 ∷ []) ∷ [])
     ∷ []
 
 -- the bytes of a file of five records, under first fit on two processors
@@ -152,6 +171,14 @@ sample =
     ∷ 65 ∷ 0 ∷ 0 ∷ 0 ∷ 4 ∷ 0 ∷ 0 ∷ 0 ∷ 8 ∷ 0 ∷ 0 ∷ 0 ∷ 10 ∷ 3 ∷ 98 ∷ 105 ∷ 103
     ∷ 87 ∷ 0 ∷ 0 ∷ 0 ∷ 2 ∷ []
 
+-- what they stand for: each record, and where its label begins
+abbrev pub sample_file : File
+sample_file = record {
+  policy = First;
+  processors = 2;
+  records = asks.admits 1 2 5 (codes "saw") 23 ∷ asks.admits 2 4 10 (codes "cam") 40 ∷ asks.admits 3 3 10 (codes "drl") 57 ∷ asks.admits 4 8 10 (codes "big") 74 ∷ asks.withdraws 2 ∷ [];
+}
+
 -- and its lines: three tasks get their seats, a fourth fits on neither processor, and the second leaves
 abbrev pub sample_text : List ℕ
 sample_text = codes "0 A saw 0 5\n1 A cam 0 10\n2 A drl 1 10\n3 A big R8\n4 W 2 0\n"
@@ -159,7 +186,8 @@ sample_text = codes "0 A saw 0 5\n1 A cam 0 10\n2 A drl 1 10\n3 A big R8\n4 W 2 
 -- inputs with the player's text
 abbrev pub whole : List Case
 whole =
-    played sample sample_text
+    filed sample sample_file
+    ∷ played sample sample_text
     -- a file of no records
     ∷ played (82 ∷ 65 ∷ 75 ∷ 0 ∷ 1 ∷ 87 ∷ 16 ∷ 0 ∷ 0 ∷ []) []
     -- nothing at all, and a header that ends behind its version

@@ -50,10 +50,17 @@ impl FromStr for Setup {
 fn put(console: &mut Console, processors: usize, setup: Setup) -> Result<(), MakeRefusal>
     ensures { Puts processors setup result console.new }
 {
-    *console = None;
-    let rack = Rack::make(processors, setup.judge, setup.policy).map_err(|blank| blank.refusal())?;
-    *console = Some(rack);
-    Ok(())
+    // No `?`: a rack is large, and is written once, straight onto the console.
+    match Rack::make(processors, setup.judge, setup.policy) {
+        Ok(rack) => {
+            *console = Some(rack);
+            Ok(())
+        }
+        Err(blank) => {
+            *console = None;
+            Err(blank.refusal())
+        }
+    }
 }
 
 /// The answer to `make`: `ok`, or the refusal.

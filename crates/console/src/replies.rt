@@ -4,6 +4,7 @@ ghost use Rattle.std.specs.Option.{option_map};
 ghost use Rattle.rackfile.specs.Files.{reading};
 ghost use Rattle.script.specs.Lines.{line_with};
 ghost use Rattle.script.specs.NoCalls.{Reads};
+ghost use Rattle.console.specs.Console.{Standing};
 ghost use Rattle.console.specs.Files.{reading_text};
 ghost use Rattle.console.specs.Hex.{bytes_of};
 ghost use Rattle.console.specs.Lost.{Answers, Written};
@@ -20,6 +21,7 @@ use crate::plays::play_told;
 use crate::questions::{find, load, seats};
 use crate::unanswered::Unanswered;
 use crate::words::{Word, asked};
+use rack::rack_sound;
 use script::{NoCall, is_passed_over};
 use std::alloc::Global;
 use std::str;
@@ -101,13 +103,35 @@ fn no_text_reply(alloc: Global, line: &[u8]) -> Result<Vec<u8>, Lost>
     answered(alloc, line, b"?")
 }
 
-/// What is written back for a line. Where memory fails, what stands at the console is never lost: the call is not made, or it is made and its answer is lost.
+// What is written back for a line, be it text or not.
 #[tactic(auto, using(crate::proofs::Replying::replied_no_text))]
-pub fn reply(alloc: Global, console: &mut Console, line: &[u8]) -> Result<Vec<u8>, Lost>
+fn line_reply(alloc: Global, console: &mut Console, line: &[u8]) -> Result<Vec<u8>, Lost>
     ensures { Answers vec_items (Replied console.old line.now) console.old console.new result }
 {
     match str::from_utf8(line) {
         Ok(text) => text_reply(alloc, console, text),
         Err(_) => no_text_reply(alloc, line),
     }
+}
+
+// A rack that stands at the console is sound.
+fn standing(console: &Console)
+    ensures { Standing console.now }
+{
+    if let Some(rack) = console {
+        rack_sound(rack);
+    }
+}
+
+/// What is written back for a line. Where memory fails, what stands at the console is never lost: the call is not made, or it is made and its answer is lost.
+/// Whatever is asked, a rack at the console is sound, before and after.
+pub fn reply(alloc: Global, console: &mut Console, line: &[u8]) -> Result<Vec<u8>, Lost>
+    ensures answer { Answers vec_items (Replied console.old line.now) console.old console.new result }
+    ensures sound_before { Standing console.old }
+    ensures sound_after { Standing console.new }
+{
+    standing(console);
+    let said = line_reply(alloc, console, line);
+    standing(console);
+    said
 }

@@ -18,7 +18,7 @@ use Rattle.judges.specs.declared.question.Weighed.TheVariants.{NotBefore, Never}
 use Rattle.judges.specs.Choosing.{asked_parts}
 
 -- a demand that no time up to the longest period does leaves no good instant
-never_good : (x : Task) (above : List Task) (t u : ℕ) → asked x above ≡ true → 1000000 < demand x above t → t ≤ u → good x above u ≡ false
+pub never_good : (x : Task) (above : List Task) (t u : ℕ) → asked x above ≡ true → 1000000 < demand x above t → t ≤ u → good x above u ≡ false
 never_good x above t u h d l =
     let a = asked_parts x above h in
     let b = limits x a.own in

@@ -177,3 +177,14 @@ no_miss ts horizon rs h = go (outcome ts horizon rs).miss (miss_is_first ts hori
         let b = f.1 in
         let z : ◌≡◌ {A = ℕ} 0 1 = cc in
         absurd (omega arith)
+
+-- late at an instant up to the horizon, and some miss is answered
+pub some_miss : (ts : List Task) (horizon : ℕ) (rs : List Release) (n p : ℕ) → n ≤ horizon → first_missed n 0 (states_at ts rs n) ≡ Some p → (m : Miss) × ((outcome ts horizon rs).miss ≡ Some m)
+some_miss ts horizon rs n p l e = go (outcome ts horizon rs).miss (miss_is_first ts horizon rs)
+  where
+    go : (o : Option Miss) → FirstMiss ts horizon rs o → (m : Miss) × (o ≡ Some m)
+    go None f =
+        let a = f n l in
+        let z : ◌≡◌ {A = ℕ} 0 1 = cc in
+        absurd (omega arith)
+    go (Some m) f = (m, refl)

@@ -17,7 +17,6 @@ use Rattle.book.specs.Book as call
 use Rattle.book.specs.Answers.{One, OneRight}
 use Rattle.book.proofs.Single.{one_right_answer}
 use Rattle.rack.specs.Table.{Sound}
-use Rattle.rack.proofs.Living.{moment}
 use Rattle.rack.proofs.Soundness.{free_sound, admitted_sound, withdrawn_sound}
 use Rattle.rackfile.specs.declared.fault.FileFault.{FileFault}
 use Rattle.rackfile.specs.Records.{Seen, admits, withdraws}
@@ -34,7 +33,8 @@ policy_lawful Worst = worst_laws
 
 module _ (policy : Policy) where
   right_once : (b : Book) → Sound b → OneRight least_good_point (policy_before policy) b
-  right_once b sound = one_right_answer least_good_point points_lawful (policy_before policy) (policy_lawful policy) b (moment b sound)
+  right_once b sound =
+      one_right_answer least_good_point points_lawful (policy_before policy) (policy_lawful policy) b (λ p h. ((sound.kept_well p h).limits, (sound.kept_well p h).instants)) sound.differ
 
   pub one_text_of : (rs : List Seen) (b : Book) → Sound b → (sheet : List ℕ) (index : ℕ) → One (List ℕ) (Lines policy b sheet index rs)
   one_text_of [] b sound sheet index = record { it = []; is = refl; only = λ text e. e }

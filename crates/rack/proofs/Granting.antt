@@ -30,6 +30,10 @@ use Rattle.rack.proofs.Taken.{refill_set}
 use Rattle.rack.proofs.Bests.{willing, rejects}
 use Rattle.rack.proofs.Passing.{passing}
 
+-- what is granted is not refused
+pub ok_no_err : {X Y : Type 0} (x : X) (y : Y) → ◌≡◌ {A = Result X Y} (Ok x) (Err y) → ⊥
+ok_no_err x y p = let z : ◌≡◌ {A = ℕ} 0 1 = cc in omega arith
+
 module _ (meaning : Meaning) (x : Task) (ss : List Seat) (t : Trial) (k : Took meaning x ss t) where
   -- the newcomer's instant
   own_instant : meaning x (take (place_of x (tasks_of ss)) (tasks_of ss)) ≡ Some (get_or t.instants.items 0 no_ticks)

@@ -1,5 +1,6 @@
 pub mod Shifting
 pub mod Taken
+pub mod Cells
 pub mod Joining
 pub mod Shares
 pub mod Leaving

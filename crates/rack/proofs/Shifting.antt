@@ -1,4 +1,4 @@
--- What a rotation by one inside a fixed array leaves of its front.
+-- What a rotation by one inside a fixed array leaves of its front and behind it.
 use Rattle.std.proofs.Common.{◌≡◌, ℕ, ◌+◌, ◌-◌, ◌<◌, ◌≤◌, ◌≢◌, List, length, get_or, take, drop, set, sym, ap, ◌∙◌, ⊎_elim, arith, rules}
 use borrow.Rule.Slice.PartMut.{put_mid}
 use Rattle.std.specs.List.{insert, remove, between}
@@ -27,6 +27,12 @@ module _ {X : Type 0} (xs ps : List X) (at n : ℕ) (within : at ≤ n) (room : 
       (cases_eq k at))
       (cases_lt k at))
 
+  pub joined_behind : (y d : X) → ((i : ℕ) → n ≤ i → get_or xs i d ≡ d) → (i : ℕ) → n + 1 ≤ i → get_or (set (put_mid at (n + 1 - at) xs ps) at y) i d ≡ d
+  joined_behind y d blank i h =
+      let ne : i ≢ at = omega arith in
+      let kept : get_or (set (put_mid at (n + 1 - at) xs ps) at y) i d ≡ get_or xs i d = search (rules, places, get_or-set_other) in
+      kept ∙ blank i (omega arith)
+
 module _ {X : Type 0} (xs ps : List X) (at n : ℕ) (within : at < n) (room : n ≤ length xs) (long : length ps ≡ n - at) where
   pub length-left : length (put_mid at (n - at) xs ps) ≡ length xs
   length-left = search (rules, places)
@@ -43,6 +49,17 @@ module _ {X : Type 0} (xs ps : List X) (at n : ℕ) (within : at < n) (room : n 
       let right = get_or-remove_above (take n xs) at d k ge (search (rules, places)) in
       left ∙ m ∙ ap (λ i. get_or xs i d) back ∙ sym (get_or-take n xs (k + 1) d (omega arith)) ∙ sym right)
       (cases_lt k at))
+
+  pub left_behind : (d : X) → ((i : ℕ) → n ≤ i → get_or xs i d ≡ d) → (i : ℕ) → n - 1 ≤ i → get_or (set (put_mid at (n - at) xs ps) (n - 1) d) i d ≡ d
+  left_behind d blank i h = ⊎_elim
+      (λ (e : i ≡ n - 1).
+      let lt : n - 1 < length (put_mid at (n - at) xs ps) = omega (arith, length-left) in
+      ap (λ (j : ℕ). get_or (set (put_mid at (n - at) xs ps) (n - 1) d) j d) e ∙ get_or-set_same (put_mid at (n - at) xs ps) (n - 1) d d lt)
+      (λ (ne : i ≢ n - 1).
+      let past : n ≤ i = omega arith in
+      let kept : get_or (set (put_mid at (n - at) xs ps) (n - 1) d) i d ≡ get_or xs i d = search (rules, places, get_or-set_other) in
+      kept ∙ blank i past)
+      (cases_eq i (n - 1))
 
 -- the part of a list, by places
 pub in_part : {X : Type 0} (xs : List X) (at end i : ℕ) (d : X) → i < end - at → get_or (between at end xs) i d ≡ get_or xs (at + i) d

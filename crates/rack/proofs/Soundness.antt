@@ -57,8 +57,11 @@ removed_kept ss at lt kept =
       instants = good_removed ss at lt kept.instants;
     }
 
+pub allowed : (m : ℕ) → rack_size m ≡ true → (1 ≤ m) × (m ≤ 16)
+allowed m size = let p = and_parts (leb 1 m) (leb m 16) size in (leb-true 1 m p.0, leb-true m 16 p.1)
+
 pub at_most_16 : (m : ℕ) → rack_size m ≡ true → m ≤ 16
-at_most_16 m size = leb-true m 16 (and_parts (leb 1 m) (leb m 16) size).1
+at_most_16 m size = (allowed m size).1
 
 pub free_sound : (m : ℕ) → rack_size m ≡ true → Sound (replicate m [])
 free_sound m size =

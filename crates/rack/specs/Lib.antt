@@ -1,4 +1,5 @@
 pub mod Table
+pub mod Cells
 pub mod Renewed
 pub mod Trials
 pub mod Choices

@@ -12,4 +12,4 @@ mod trial;
 mod withdrawing;
 
 pub use blank::Blank;
-pub use rack::{Rack, every_rack};
+pub use rack::{Rack, every_rack, rack_sound};

@@ -1,6 +1,6 @@
 // A rack, and how it is made.
 ghost use Rattle.std.specs.Prelude.{◌≡◌, ◌≤◌, [], replicate};
-ghost use Rattle.rack.specs.Table.{rack_size};
+ghost use Rattle.rack.specs.Table.{Sound, rack_size};
 ghost use Rattle.rack.specs.Always.{Always};
 
 use super::blank::Blank;
@@ -38,16 +38,43 @@ fn may_have(processors: usize) -> bool
     (1..=16).contains(&processors)
 }
 
+// The first N of 16 processors, with all seats free.
+fn all_free<const N: usize>() -> ArrayVec<Processor, 16>
+    requires { N ≤ 16 }
+    ensures { result.items ≡ replicate N [] }
+{
+    let mut processors = ArrayVec::new();
+    for _ in 0..N {
+        processors.push(Processor::default());
+    }
+    processors
+}
+
 // So many processors with all seats free.
+// An arm for each count: with a constant LLVM fills the 16 places once, where the rack will stand. A loop up to `count` writes them twice and moves them.
 fn free_processors(count: usize) -> ArrayVec<Processor, 16>
     requires { count ≤ 16 }
     ensures { result.items ≡ replicate count [] }
 {
-    let mut processors = ArrayVec::new();
-    for _ in 0..count {
-        processors.push(Processor::default());
+    match count {
+        0 => all_free::<0>(),
+        1 => all_free::<1>(),
+        2 => all_free::<2>(),
+        3 => all_free::<3>(),
+        4 => all_free::<4>(),
+        5 => all_free::<5>(),
+        6 => all_free::<6>(),
+        7 => all_free::<7>(),
+        8 => all_free::<8>(),
+        9 => all_free::<9>(),
+        10 => all_free::<10>(),
+        11 => all_free::<11>(),
+        12 => all_free::<12>(),
+        13 => all_free::<13>(),
+        14 => all_free::<14>(),
+        15 => all_free::<15>(),
+        _ => all_free::<16>(),
     }
-    processors
 }
 
 impl<J: Judge, P: Preference> Rack<J, P> {
@@ -70,6 +97,14 @@ impl<J: Judge, P: Preference> Rack<J, P> {
             preference,
         })
     }
+}
+
+/// What every rack keeps, whatever its judge and its preference.
+pub fn rack_sound<J, P>(rack: &Rack<J, P>)
+    ensures { Sound rack.now.lists }
+{
+    // With a field in use the rack's invariant is known.
+    let _ = &rack.processors;
 }
 
 /// At every moment a rack is sound, and each of the five calls, whatever is asked, has exactly one answer that its relation allows, with one sheet and one table afterwards.

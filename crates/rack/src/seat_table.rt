@@ -8,7 +8,7 @@ use seating::Seat;
 use std::marker::Model;
 use tasks::{Task, Ticks};
 
-/// At most 32 seats: the first `taken` of a fixed array hold tasks.
+/// At most 32 seats: the first `taken` of a fixed array hold tasks, and the others are blank.
 // An array and its count, and no ArrayVec: the fixed array of a processor is a rule of the project.
 #[derive(Debug, Default, Drop)]
 pub(crate) struct SeatTable {
@@ -19,12 +19,13 @@ pub(crate) struct SeatTable {
 impl Model for SeatTable {
     ghost use Rattle.std.specs.Prelude.{List, ◌≡◌, ◌≤◌, length, take};
     ghost use Rattle.seating.specs.declared.seat.Seat.{Seat};
+    ghost use Rattle.rack.specs.Cells.{BlankFrom};
 
     ghost Value = { List Seat };
 
     ghost view = { λ t. take t.taken t.seats };
 
-    ghost invariant = { λ t. (length t.seats ≡ 32) × (t.taken ≤ 32) };
+    ghost invariant = { λ t. (length t.seats ≡ 32) × (t.taken ≤ 32) × BlankFrom t.taken t.seats };
 }
 
 impl SeatTable {
@@ -87,6 +88,8 @@ impl SeatTable {
         let seat = self.as_slice()[at];
         self.seats[at..self.taken].rotate_left(1);
         self.taken -= 1;
+        // A free seat is blank, so that equal lists mean equal cells.
+        self.seats[self.taken] = Seat::default();
         seat
     }
 }

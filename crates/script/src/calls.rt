@@ -6,7 +6,7 @@ ghost use Rattle.script.specs.Calls.{seen_run, seen_as, run_of, call_of, called}
 
 use crate::fields::numbers;
 use crate::no_call::NoCall;
-use crate::pairs::{counted, counted_alone};
+use crate::pairs::{counted_alone, pairs, parted, parted_alone};
 use crate::words::Word;
 use machine::Release;
 use std::alloc::Global;
@@ -49,12 +49,13 @@ pub enum Call {
 fn rehearsal_from(alloc: Global, horizon: u32, rest: &[u32]) -> Result<Rehearsal, NoCall>
     ensures { Reads seen_run (run_of horizon rest.now) result }
 {
-    let (tasks, behind) = counted(alloc, rest)?;
-    let releases = counted_alone(alloc, behind)?;
+    // Both counts are looked at before a list is made.
+    let (tasks, behind) = parted(rest).ok_or(NoCall::Unreadable)?;
+    let releases = parted_alone(behind).ok_or(NoCall::Unreadable)?;
     Ok(Rehearsal {
         horizon: Ticks(horizon),
-        tasks,
-        releases,
+        tasks: pairs(alloc, tasks)?,
+        releases: pairs(alloc, releases)?,
     })
 }
 

@@ -1,8 +1,8 @@
 // Numbers two by two, behind their count.
-ghost use Rattle.std.specs.Prelude.{◌≡◌, ◌+◌, ◌<◌, ℕ, length, IfOk, MatchOption, vec_items};
-ghost use Rattle.std.specs.List.{IsSplitAt};
+ghost use Rattle.std.specs.Prelude.{◌≡◌, ℕ, IfOk, vec_items};
+ghost use Rattle.std.specs.Option.{option_map};
 ghost use Rattle.script.specs.NoCalls.{Reads};
-ghost use Rattle.script.specs.Pairs.{in_pairs, counted, counted_alone};
+ghost use Rattle.script.specs.Pairs.{in_pairs, parted, alone, counted_alone};
 ghost use Rattle.script.specs.Calls.{plain_task, release_of};
 
 use crate::no_call::NoCall;
@@ -41,7 +41,7 @@ impl FromPair for Release {
 }
 
 // What numbers stand for two by two.
-fn pairs<T: FromPair>(alloc: Global, numbers: &[u32]) -> Result<Vec<T>, AllocError>
+pub(crate) fn pairs<T: FromPair>(alloc: Global, numbers: &[u32]) -> Result<Vec<T>, AllocError>
     ensures { IfOk result (λ v. v.items ≡ in_pairs T.meaning numbers.now) }
 {
     let mut all = Vec::new(alloc);
@@ -53,33 +53,29 @@ fn pairs<T: FromPair>(alloc: Global, numbers: &[u32]) -> Result<Vec<T>, AllocErr
     Ok(all)
 }
 
-// So many numbers, two for each, and what stands behind them.
-fn split_pairs(count: u32, rest: &[u32]) -> Option<(&[u32], &[u32])>
-    ensures { MatchOption result (length rest.now < count + count) (λ p. IsSplitAt rest.now (count + count) p.0.now p.1.now) }
+// The numbers behind the count in `N A1 B1 .. AN BN`, and what stands behind them.
+pub(crate) fn parted(numbers: &[u32]) -> Option<(&[u32], &[u32])>
+    ensures { option_map (λ p. (p.0.now, p.1.now)) result ≡ parted numbers.now }
 {
+    let (count, rest) = numbers.split_first()?;
     // `as`, as in a release's place.
-    rest.split_at_checked(2 * count as usize)
+    rest.split_at_checked(2 * (*count as usize))
 }
 
-// `N A1 B1 .. AN BN`, and what stands behind it.
-pub(crate) fn counted<T: FromPair>(
-    alloc: Global,
-    numbers: &[u32],
-) -> Result<(Vec<T>, &[u32]), NoCall>
-    ensures { Reads (λ x. (vec_items x.0, x.1.now)) (counted T.meaning numbers.now) result }
+// The numbers behind the count in `N A1 B1 .. AN BN`, with nothing behind them.
+pub(crate) fn parted_alone(numbers: &[u32]) -> Option<&[u32]>
+    ensures { option_map (λ list. list.now) result ≡ alone (parted numbers.now) }
 {
-    let (count, rest) = numbers.split_first().ok_or(NoCall::Unreadable)?;
-    let (list, behind) = split_pairs(*count, rest).ok_or(NoCall::Unreadable)?;
-    Ok((pairs(alloc, list)?, behind))
+    match parted(numbers)? {
+        (list, []) => Some(list),
+        _ => None,
+    }
 }
 
-// `N A1 B1 .. AN BN`, and nothing behind it.
+// `N A1 B1 .. AN BN`, and nothing behind it. The count is looked at before the list is made: a line that is no call takes no memory for a list.
 pub(crate) fn counted_alone<T: FromPair>(alloc: Global, numbers: &[u32]) -> Result<Vec<T>, NoCall>
     ensures { Reads vec_items (counted_alone T.meaning numbers.now) result }
 {
-    let (all, behind) = counted(alloc, numbers)?;
-    if !behind.is_empty() {
-        return Err(NoCall::Unreadable);
-    }
-    Ok(all)
+    let list = parted_alone(numbers).ok_or(NoCall::Unreadable)?;
+    Ok(pairs(alloc, list)?)
 }

@@ -38,16 +38,16 @@ module _ {X : Type 0} (test : X → Bool) where
   some_counted (x ∷ xs) h = grind (arith, sum_by-cons one x xs, some_counted xs)
 
 -- how often n stands in a list
-abbrev count : ℕ → List ℕ → ℕ
+abbrev pub count : ℕ → List ℕ → ℕ
 count n ks = count_by (λ (k : ℕ). k == n) ks
 
-once_from_differ : (ks : List ℕ) → all_differ ks ≡ true → (n : ℕ) → count n ks ≤ 1
+pub once_from_differ : (ks : List ℕ) → all_differ ks ≡ true → (n : ℕ) → count n ks ≤ 1
 once_from_differ [] h n = omega arith
 once_from_differ (k ∷ ks) h n =
     let a = and_parts (not (has k ks)) (all_differ ks) h in
     grind (arith, sum_by-cons (one (λ (j : ℕ). j == n)) k ks, none_counted (λ (j : ℕ). j == n) ks, once_from_differ ks a.1 n)
 
-differ_from_once : (ks : List ℕ) → ((n : ℕ) → count n ks ≤ 1) → all_differ ks ≡ true
+pub differ_from_once : (ks : List ℕ) → ((n : ℕ) → count n ks ≤ 1) → all_differ ks ≡ true
 differ_from_once [] h = refl
 differ_from_once (k ∷ ks) h =
     let others = differ_from_once ks (λ n. omega (arith, h n, sum_by-cons (one (λ (j : ℕ). j == n)) k ks)) in
@@ -70,7 +70,7 @@ module _ (n : ℕ) where
   counted_set : (b : Lists) (p : ℕ) (new : List Seat) → p < length b → count n (numbers (set b p new)) + in_list (get_or b p []) ≡ count n (numbers b) + in_list new
   counted_set b p new lt = omega (arith, counted b, counted (set b p new), sum_by-set in_list b p new [] lt)
 
-  seated_none : (b : Lists) → seated n b ≡ false → count n (numbers b) ≡ 0
+  pub seated_none : (b : Lists) → seated n b ≡ false → count n (numbers b) ≡ 0
   seated_none [] h = refl
   seated_none (ss ∷ b) h = grind (arith, counted (ss ∷ b), counted b, sum_by-cons in_list ss b, sum_of_map (one named) (λ (s : Seat). s.task) ss, none_counted seats_it ss, seated_none b)
 
