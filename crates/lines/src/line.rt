@@ -59,12 +59,12 @@ fn is_writable(line: Line<'_>) -> bool
 }
 
 // What a line begins with.
-fn head(line: Line<'_>) -> Text
-    requires { writable (seen_as line) ≡ true }
-    ensures items { result ≡ head_text (seen_as line.entry) }
-    ensures bound { length result ≤ 29 }
+fn put_head(text: &mut Text, line: Line<'_>)
+    requires label { writable (seen_as line) ≡ true }
+    requires room { length text.old + 29 ≤ 64 }
+    ensures items { text.new ≡ text.old ++ head_text (seen_as line.entry) }
+    ensures bound { length text.new ≤ length text.old + 29 }
 {
-    let mut text = Text::new();
     match line {
         Line::Admitted { index, label, .. } | Line::NotAdmitted { index, label, .. } => {
             text.put_number(index);
@@ -78,7 +78,6 @@ fn head(line: Line<'_>) -> Text
         }
         Line::Unreadable { .. } => text.put(b"F"),
     }
-    text
 }
 
 // What it ends with.
@@ -110,7 +109,8 @@ pub fn write_line(out: &mut [u8; 64], line: Line<'_>) -> usize
     if !is_writable(line) {
         return 0;
     }
-    let mut text = head(line);
+    let mut text = Text::new();
+    put_head(&mut text, line);
     put_tail(&mut text, line);
     let bytes = text.as_slice();
     let n = bytes.len();

@@ -45,6 +45,11 @@ impl Text {
         ensures items { self.new ≡ self.old ++ decimal n }
         ensures bound { length self.new ≤ length self.old + 10 }
     {
+        // One digit, as most numbers here have: no buffer to fill and to copy from.
+        if n < 10 {
+            self.bytes.push(b'0' + n as u8);
+            return;
+        }
         self.put(Buffer::new().format(n).as_bytes());
     }
 

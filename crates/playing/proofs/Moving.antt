@@ -1,7 +1,7 @@
 -- Bytes that come in and go out in several steps.
 use Rattle.std.proofs.Common.{inl, inr, ◌≡◌, ◌≢◌, ℕ, ◌+◌, ◌-◌, ◌<◌, ◌≤◌, List, [], ◌++◌, Some, None, Ok, Err, Result, Vec, MatchResult, IsErrAnd, Fits, w8, length, get_or, take, drop, sym, ap, ◌∙◌, subst, le_refl, arith, add-zero, append-nil, length-append, length-take, length-take-le, length-drop, take_at, take_all}
 use Rattle.std.proofs.lemmas.List.{take-append-le}
-use Rattle.std.proofs.lemmas.List.Elements.{All-take, All-from_get_or}
+use Rattle.std.proofs.lemmas.List.Elements.{All-append, All-take, All-from_get_or}
 use Rattle.std.proofs.lemmas.Slice.{take-put_mid_below}
 use Rattle.std.proofs.Math.Nat.{eq-or-lt_of_le}
 use Rattle.std.proofs.Math.Seq.{take-append-add, take-add, take-take}
@@ -66,17 +66,36 @@ module _ (a b c : Known) (at k : ℕ) (xs ys : List ℕ) where
 
 pub ruleset readings = (are_bytes, all_came, filled_more, filled_kept, taken_in_part, none_came, Consumes-nil)
 
--- a vector that was filled from the front, and cut to what came
-pub taken_of : (most n : ℕ) (a b : Known) (buffer items cut : List ℕ) → length buffer ≡ most → CameFirst a b buffer n → cut ≡ take n (take most (buffer ++ drop (length buffer) items)) → Taken most a b cut
-taken_of most n a b buffer items cut long came is =
-    let same : take n buffer ≡ cut = sym (is ∙ ap (take n) (take_at buffer (drop (length buffer) items) most long)) in
-    let size : length cut ≡ n = ap length (sym same) ∙ length-take-le n buffer came.within in
-    record {
-      consumed = subst (Consumes a b) same came.consumed;
-      within = omega (arith, came.within);
-      all = λ less. came.all (omega arith);
-      bytes = subst AreBytes same came.bytes;
-    }
+-- a reader at a, then b, then c; the bytes `before` came between a and b, and then so many of the block; `after` is all of them
+module _ (most : ℕ) (a b c : Known) (before block after : List ℕ) (n : ℕ) where
+  pub block_consumed : Consumes a b before → CameFirst b c block n → after ≡ before ++ take n block → Consumes a c after
+  block_consumed first more is = subst (Consumes a c) (sym is) (Consumes-trans a b c before (take n block) first more.consumed)
+
+  pub block_bytes : AreBytes before → CameFirst b c block n → after ≡ before ++ take n block → AreBytes after
+  block_bytes first more is = subst AreBytes (sym is) (All-append (λ y. y < 256) before (take n block) first more.bytes)
+
+  -- the block is not full: that was all
+  pub last_block : length after ≤ most → n < length block → Consumes a b before → AreBytes before → CameFirst b c block n → after ≡ before ++ take n block → Taken most a c after
+  last_block within short first bytes more is = record {
+    consumed = block_consumed first more is;
+    within = within;
+    all = λ less. more.all short;
+    bytes = block_bytes bytes more is;
+  }
+
+-- so many bytes came, and then the reading of a block failed
+pub block_failed : (most : ℕ) (a b c : Known) (before block : List ℕ) → length before + length block ≤ most → Consumes a b before → TakenAtMost (length block) b c → TakenAtMost most a c
+block_failed most a b c before block within first more = record {
+  taken = before ++ more.taken;
+  few = omega (arith, more.few, length-append before more.taken);
+  consumed = Consumes-trans a b c before more.taken first more.consumed;
+}
+
+-- as much came as was asked for
+pub filled_up : (most : ℕ) (a b : Known) (input : List ℕ) → length input ≡ most → Consumes a b input → AreBytes input → Taken most a b input
+filled_up most a b input full came bytes = record { consumed = came; within = omega arith; all = λ less. absurd (omega arith); bytes = bytes }
+
+pub ruleset blocks = (block_consumed, block_bytes, last_block, filled_up, Consumes-nil)
 
 -- what becomes of a failed read is the failed reading of the input
 pub input_read : {A : Type 0} (most : ℕ) (a b : Known) (r : Result (Vec ℕ A) Error) (q : Result (Vec ℕ A) Halt) → most ≡ 65537 → TakesUp most a b r

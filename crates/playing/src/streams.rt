@@ -1,5 +1,5 @@
 // What comes in and goes out, so that it is known also after an error how much was read or written.
-ghost use Rattle.std.specs.Prelude.{◌≡◌, ◌≢◌, IfErr, vec_len};
+ghost use Rattle.std.specs.Prelude.{◌≡◌, ◌≢◌, [], IfErr, vec_capacity};
 ghost use Rattle.std.specs.IoError.{error_kind};
 ghost use Rattle.playing.specs.Streams.{Fills, TakesUp, ReadsInput, Puts, Finishes};
 
@@ -10,6 +10,9 @@ use std::io::{BufWriter, Error, ErrorKind, Read, Write};
 
 // One byte more than a file may have: enough to tell that an input is too long.
 const MOST_READ: usize = 65_537;
+
+// The bytes of an input are read in blocks of so many: little to clear for a short input, and few reads for a long one.
+const BLOCK: usize = 1_024;
 
 // The error where a loop over interrupted calls ends.
 fn gave_up() -> Error
@@ -39,13 +42,24 @@ fn fill<R: Read>(reader: &mut R, buffer: &mut [u8]) -> io::Result<usize>
     Err(gave_up())
 }
 
-// Fills the vector from the reader, and cuts it to what came.
-#[tactic(auto, using(crate::proofs::Moving::taken_of))]
+// Reads into the vector, which is empty, until it holds as much as it has room for or nothing more comes. It goes block by block, so that a short input does not pay for all the room.
+#[tactic(auto, using(crate::proofs::Moving::blocks))]
 fn fill_vec<R: Read>(reader: &mut R, mut room: Vec<u8>) -> io::Result<Vec<u8>>
-    ensures { TakesUp (vec_len room) (R.remaining reader.old) (R.remaining reader.new) result }
+    requires { room.items ≡ [] }
+    ensures { TakesUp (vec_capacity room) (R.remaining reader.old) (R.remaining reader.new) result }
 {
-    let came = fill(reader, &mut room)?;
-    room.truncate(came);
+    let most = room.capacity();
+    let mut block = [0u8; BLOCK];
+    while room.len() < most {
+        let size = BLOCK.min(most - room.len());
+        let part = &mut block[..size];
+        let came = fill(reader, part)?;
+        // There is room, so nothing is allocated.
+        room.extend_from_slice(&part[..came]).unwrap();
+        if came < size {
+            return Ok(room);
+        }
+    }
     Ok(room)
 }
 
@@ -54,7 +68,8 @@ fn fill_vec<R: Read>(reader: &mut R, mut room: Vec<u8>) -> io::Result<Vec<u8>>
 pub(crate) fn read_input<R: Read>(alloc: Global, reader: &mut R) -> Result<Vec<u8>, Halt>
     ensures { ReadsInput (R.remaining reader.old) (R.remaining reader.new) result }
 {
-    let room = vec![in alloc; 0u8; MOST_READ]?;
+    // All the memory, before the first read.
+    let room = Vec::with_capacity(alloc, MOST_READ)?;
     fill_vec(reader, room).map_err(Halt::Reading)
 }
 

@@ -1,9 +1,10 @@
 -- One turn of each loop that looks at an instant or writes its line.
-use Rattle.std.proofs.Common.{◌≡◌, ℕ, suc, ◌+◌, ◌≤◌, Bool, true, false, cond, ◌||◌, List, [], ◌∷◌, ◌++◌, length, take, replicate, Some, None, Option, sym, refl, ap, ◌∙◌, add-one, arith}
-use Rattle.std.specs.List.{position, position_from, enumerate_from}
+use Rattle.std.proofs.Common.{◌≡◌, ℕ, suc, ◌+◌, ◌≤◌, Bool, true, false, cond, ◌||◌, eqb, List, [], ◌∷◌, ◌++◌, length, take, replicate, Some, None, Option, sym, refl, ap, ◌∙◌, add-one, arith}
+use Rattle.std.specs.List.{filter, position, position_from, enumerate_from, range_with_len}
 use Rattle.std.proofs.lemmas.List.{take-replicate}
+use Rattle.std.proofs.lemmas.List.Elements.{filter_agree}
 use Rattle.std.proofs.lemmas.Iterator.Adapters.{position_from-zero}
-use Rattle.std.proofs.lemmas.Bool.{leb-true}
+use Rattle.std.proofs.lemmas.Bool.{leb-true, and_right}
 use Rattle.tasks.specs.declared.task.Task.{Task}
 use Rattle.machine.specs.declared.state.State.{State}
 use Rattle.machine.specs.declared.state.State.TheVariants.{Idle}
@@ -12,18 +13,28 @@ use Rattle.machine.specs.declared.state.Miss.{Miss}
 use Rattle.machine.specs.declared.state.Outcome.{Outcome}
 use Rattle.machine.specs.declared.refusal.Refusal.{Refusal}
 use Rattle.machine.specs.declared.refusal.Refusal.TheVariants.{Tasks, Horizon, Releases}
-use Rattle.machine.specs.Machine.{first_missed, due, with_releases, served, outcome}
+use Rattle.machine.specs.Machine.{first_missed, releases, due, with_releases, served, outcome}
 use Rattle.machine.specs.Traces.{states_at}
 use Rattle.machine.specs.declared.state.Moment.{Moment}
 use Rattle.machine.specs.declared.state.Moment.TheVariants.{Missed, Went}
-use Rattle.machine.specs.Moments.{deadlines_fit, Stepped}
+use Rattle.machine.specs.Moments.{is_now, deadlines_fit, Stepped}
 use Rattle.machine.specs.Laws.{FirstMiss, ready_at, end_of}
 use Rattle.machine.specs.Refusals.{tasks_allowed, horizon_allowed, releases_allowed, first_cause}
+use Rattle.machine.proofs.Coming.{with_same}
 use Rattle.machine.proofs.Running.{allowed_tasks}
 use Rattle.machine.proofs.Separated.{near_fits}
 use Rattle.machine.proofs.Trace.{miss_is_first, none_before, length-states}
 use Rattle.machine.specs.Events.{fresh}
 use Rattle.traces.specs.Traces.{released_below, waiting, first_waiting, line_text, line_at, lines_below, Clear}
+
+-- what is released now is seen in the releases that are now
+due_one : (p t : ℕ) (r : Release) (qs rs : List Release) (b : Bool) → is_now t r ≡ b → due qs p t ≡ due rs p t → due (cond b (r ∷ qs) qs) p t ≡ due (r ∷ rs) p t
+due_one p t r qs rs true e h = ap (λ b. releases p t r || b) h
+due_one p t r qs rs false e h = h ∙ ap (λ b. b || due rs p t) (sym (and_right (eqb r.place p) (eqb r.instant.0 t) e))
+
+due_among : (rs : List Release) (p t : ℕ) → due (filter (is_now t) rs) p t ≡ due rs p t
+due_among [] p t = refl
+due_among (r ∷ rs) p t = due_one p t r (filter (is_now t) rs) rs (is_now t r) refl (due_among rs p t)
 
 -- the tick goes to the first place that waits once the releases have come
 module _ (rs : List Release) (t : ℕ) where
@@ -69,12 +80,14 @@ module _ (ts : List Task) (rs : List Release) where
         stepped ts rs k old new o s sized f (ap (first_missed k 0) is ∙ m) ∙ ap (λ ss. served (with_releases rs k 0 ts ss)) is ∙ sym (ap (states_at ts rs) (add-one k))
 
     pub lines_next
-        : (text all released : List ℕ) (at : Option ℕ) → text ≡ lines_below ts rs k → all ≡ text ++ line_text k released at new
-        → released ≡ released_below rs k (length ts) → at ≡ position (will_wait rs k) (enumerate_from 0 old) → new ≡ states_at ts rs (k + 1) → all ≡ lines_below ts rs (k + 1)
-    lines_next text all released at a b c d e =
-        let here = d ∙ first_to_wait rs k ts old sized ∙ ap (λ ss. first_waiting (with_releases rs k 0 ts ss)) is in
+        : (qs : List Release) → qs ≡ filter (is_now k) rs → (text all released : List ℕ) (at : Option ℕ) → text ≡ lines_below ts rs k → all ≡ text ++ line_text k released at new
+        → released ≡ released_below qs k (length ts) → at ≡ position (will_wait qs k) (enumerate_from 0 old) → new ≡ states_at ts rs (k + 1) → all ≡ lines_below ts rs (k + 1)
+    lines_next qs now text all released at a b c d e =
+        let same : (p : ℕ) → due qs p k ≡ due rs p k = λ p. ap (λ (l : List Release). due l p k) now ∙ due_among rs p k in
+        let these : released ≡ released_below rs k (length ts) = c ∙ filter_agree (λ p. due qs p k) (λ p. due rs p k) same (range_with_len 0 (length ts)) in
+        let here = d ∙ first_to_wait qs k ts old sized ∙ ap first_waiting (with_same qs rs k 0 ts old same) ∙ ap (λ ss. first_waiting (with_releases rs k 0 ts ss)) is in
         let line : line_text k released at new ≡ line_at ts rs k =
-        ap (λ (r : List ℕ). line_text k r at new) c ∙ ap (λ o. line_text k (released_below rs k (length ts)) o new) here
+        ap (λ (r : List ℕ). line_text k r at new) these ∙ ap (λ o. line_text k (released_below rs k (length ts)) o new) here
         ∙ ap (line_text k (released_below rs k (length ts)) (first_waiting (ready_at ts rs k))) (e ∙ ap (states_at ts rs) (add-one k)) in
         b ∙ ap (λ (l : List ℕ). l ++ line_text k released at new) a ∙ ap (λ (l : List ℕ). lines_below ts rs k ++ l) line ∙ sym (ap (lines_below ts rs) (add-one k))
 

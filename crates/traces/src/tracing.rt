@@ -3,7 +3,7 @@ ghost use Rattle.std.specs.Prelude.{◌≡◌, IfOk, string_bytes};
 ghost use Rattle.traces.specs.Traces.{lines_below, trace_text, Clear};
 
 use crate::line::Line;
-use crate::views::{At, end_of};
+use crate::views::{At, due_now, end_of};
 use machine::{Release, State, rehearse, step};
 use std::alloc::{AllocError, Global};
 use tasks::{Task, Ticks};
@@ -24,7 +24,12 @@ fn lines_to(
     let mut text = String::new(alloc);
     for at in 0..end.0 {
         let instant = Ticks(at);
-        let now = At { releases, instant };
+        // The whole list is looked through once, not once for each place.
+        let due = due_now(alloc, releases, instant)?;
+        let now = At {
+            releases: due.as_slice(),
+            instant,
+        };
         let released = now.released_places(alloc, tasks.len())?;
         let served = now.served_place(states);
         // The instant goes by, since none before the end has a miss.

@@ -1,13 +1,36 @@
 // What is seen of one instant of a run.
 ghost use Rattle.std.specs.Prelude.{◌≡◌, ◌||◌, IfOk};
-ghost use Rattle.std.specs.List.{position, enumerate_from};
+ghost use Rattle.std.specs.List.{filter, position, enumerate_from};
 ghost use Rattle.machine.specs.Machine.{releases, due};
+ghost use Rattle.machine.specs.Moments.{is_now};
 ghost use Rattle.machine.specs.Laws.{end_of};
 ghost use Rattle.traces.specs.Traces.{released_below, waiting, ServedHasTurn};
 
 use machine::{Miss, Release, State};
 use std::alloc::{AllocError, Global};
 use tasks::Ticks;
+
+// Whether the release is now.
+fn is_now(release: &Release, instant: Ticks) -> bool
+    ensures { result ≡ is_now instant.0 release.now }
+{
+    release.instant == instant
+}
+
+// The releases that are now, in their order. Of a lawful list that is one for each task at most.
+pub(crate) fn due_now(
+    alloc: Global,
+    releases: &[Release],
+    instant: Ticks,
+) -> Result<Vec<Release>, AllocError>
+    ensures { IfOk result (λ v. v.items ≡ filter (is_now instant.0) releases.now) }
+{
+    releases
+        .iter()
+        .copied()
+        .filter(|release| is_now(release, instant))
+        .collect(alloc)
+}
 
 // Whether the release is of this place, and now.
 fn is_of(release: &Release, place: usize, instant: Ticks) -> bool
@@ -23,7 +46,7 @@ fn waits(state: State) -> bool
     matches!(state, State::Waiting { .. })
 }
 
-// An instant, and the releases of its run.
+// An instant, and the releases that may be of it.
 #[derive(Clone, Copy)]
 pub(crate) struct At<'a> {
     pub(crate) releases: &'a [Release],

@@ -11,5 +11,6 @@ loop-at-preserved c =
     let rs = c.args.releases.now in
     let k = c.loop-at.at in
     let next = states_next ts rs k c.loop-at.states c.step.new.states c.loop-at.invariant.0 c.step.result c.step.ensures (c.requires.fits k c.loop-at-test.true) (c.requires.misses k c.loop-at-test.true) in
-    let released = c.as_slice.ensures.value ∙ c.in_ok-released.ensures in
-    (next, lines_next ts rs k c.loop-at.states c.step.new.states c.loop-at.invariant.0 (string_bytes c.loop-at.text) (string_bytes c.write.new.self) c.as_slice.result.now c.served_place-served.result c.loop-at.invariant.1 c.in_ok-write.ensures.bytes released c.served_place-served.ensures next)
+    let due = c.as_slice.ensures.value ∙ c.in_ok-due.ensures in
+    let released = c.as_slice-in-loop-at.ensures.value ∙ c.in_ok-released.ensures in
+    (next, lines_next ts rs k c.loop-at.states c.step.new.states c.loop-at.invariant.0 c.as_slice.result.now due (string_bytes c.loop-at.text) (string_bytes c.write.new.self) c.as_slice-in-loop-at.result.now c.served_place-served.result c.loop-at.invariant.1 c.in_ok-write.ensures.bytes released c.served_place-served.ensures next)
