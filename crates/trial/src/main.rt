@@ -7,10 +7,10 @@ use std::io::{BufRead, BufReader, Write};
 fn main(rt: HostRuntime) -> anyhow::Result<()> {
     let mut console: Console = None;
     let mut input = BufReader::new(rt.alloc(), rt.stdin())?;
-    let mut line = Vec::new(rt.alloc());
     // Nothing says that an input ends, so its lines are counted, as std counts them.
     for _ in 0..u64::MAX {
-        line.clear();
+        // A line's room goes with it, so that the longest does not stay to the end.
+        let mut line = Vec::new(rt.alloc());
         if input.read_until(b'\n', &mut line)? == 0 {
             break;
         }
